@@ -1,0 +1,4 @@
+pub mod Test
+pub mod Search
+pub mod Digit
+pub mod Cube

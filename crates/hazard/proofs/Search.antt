@@ -1,0 +1,131 @@
+-- What the searches find.
+use mathlib.Core.Path.{_≡_, refl, sym, _∙_, subst, subst⁻¹}
+use mathlib.Core.Logic.{_↔_, inl, inr}
+use mathlib.Core.Bool.{Bool, true, false}
+use mathlib.Core.List.{List, [], _∷_, List·Memᴰ, List·Memᴰ·head, List·Memᴰ·tail, List·Memᴰ·not-nil, List·Memᴰ·cases-cons}
+use mathlib.Core.Option.{Option, none, some}
+use Prim.Native.Nat.{ℕ, zero, suc, _+_, _≤_, _<_}
+use native.Mathlib.Omega.{arith}
+use native.Mathlib.Decide.{ℕ-discrete}
+use lib.Dec.{T}
+use Rattle.hazard.specs.Search.{found, first, those, firstPlace, find, firstOf}
+use Rattle.hazard.proofs.Test.{so, so-not}
+
+-- Nothing and something are not equal.
+pub none-some : {A : Type 0} {a : A} {C : Type 0} → _≡_ {A = Option A} none (some a) → C
+none-some e = let z : _≡_ {A = ℕ} 0 1 = cc in absurd (omega arith)
+
+pub not-found : {A : Type 0} {o : Option A} → ¬ T (found o) → o ≡ none
+not-found {A} {o = none} t = refl
+not-found {A} {o = some a} t = absurd (t tt)
+
+pub none-found : {A : Type 0} {o : Option A} → o ≡ none → ¬ T (found o)
+none-found {A} {o} e t = subst (λ (p : Option A). T (found p)) e t
+
+-- What the lowest number that passes a test is.
+pub data First (test : ℕ → Bool) (from size : ℕ) : Option ℕ → Type 0 where
+  nowhere : ((x : ℕ) → from ≤ x → x < from + size → ¬ T (test x)) → First test from size none
+  lowest : {x : ℕ} → T (test x) → from ≤ x → x < from + size → ((y : ℕ) → from ≤ y → y < x → ¬ T (test y)) → First test from size (some x)
+
+pub first-is : (test : ℕ → Bool) (from size : ℕ) → First test from size (first test from size)
+first-is test from zero = nowhere (λ x l m t. omega arith)
+first-is test from (suc size) = go (test from) refl (first test (suc from) size) (first-is test (suc from) size)
+  where
+    past : test from ≡ false → (y : ℕ) → from ≤ y → (suc from ≤ y → ¬ T (test y)) → ¬ T (test y)
+    past e y l h t = elim (ℕ-discrete y from) [ yes q ↦ rw (q, e) at t | no q ↦ h (omega arith) t ]
+
+    go : (b : Bool) → test from ≡ b → (r : Option ℕ) → First test (suc from) size r → First test from (suc size) (elim b [ true ↦ some from | false ↦ r ])
+    go true e r v = lowest {x = from} (rw e tt) (omega arith) (omega arith) (λ y l m. absurd (omega arith))
+    go false e none (nowhere h) = nowhere (λ y l m. past e y l (λ i. h y i (omega arith)))
+    go false e (some x) (lowest t l m h) = lowest t (omega arith) (omega arith) (λ y i j. past e y i (λ k. h y k j))
+
+pub first-none : (test : ℕ → Bool) (from size : ℕ) → first test from size ≡ none → (x : ℕ) → from ≤ x → x < from + size → ¬ T (test x)
+first-none test from size e = go (first test from size) e (first-is test from size)
+  where
+    go : (o : Option ℕ) → o ≡ none → First test from size o → (x : ℕ) → from ≤ x → x < from + size → ¬ T (test x)
+    go none e (nowhere h) = h
+    go (some x) e v = none-some (sym e)
+
+pub none-first : (test : ℕ → Bool) (from size : ℕ) → ((x : ℕ) → from ≤ x → x < from + size → ¬ T (test x)) → first test from size ≡ none
+none-first test from size h = go (first test from size) (first-is test from size)
+  where
+    go : (o : Option ℕ) → First test from size o → o ≡ none
+    go none v = refl
+    go (some x) (lowest t l m k) = absurd (h x l m t)
+
+-- Some number below size passes.
+pub any-e : (test : ℕ → Bool) (size : ℕ) → T (found (first test 0 size)) → (i : ℕ) × (i < size) × T (test i)
+any-e test size = go (first test 0 size) (first-is test 0 size)
+  where
+    go : (o : Option ℕ) → First test 0 size o → T (found o) → (i : ℕ) × (i < size) × T (test i)
+    go none v t = absurd t
+    go (some x) (lowest u l m k) t = (x, omega arith, u)
+
+pub any-i : (test : ℕ → Bool) (size i : ℕ) → i < size → T (test i) → T (found (first test 0 size))
+any-i test size i l t = go (first test 0 size) (first-is test 0 size)
+  where
+    go : (o : Option ℕ) → First test 0 size o → T (found o)
+    go none (nowhere h) = h i (omega arith) (omega arith) t
+    go (some x) v = tt
+
+-- The entries of an ascending list of numbers.
+pub those-e : (test : ℕ → Bool) (from size : ℕ) {i : ℕ} → List·Memᴰ i (those test from size) → (from ≤ i) × (i < from + size) × T (test i)
+those-e test from zero m = absurd (List·Memᴰ·not-nil m)
+those-e test from (suc size) {i} m = go (λ u. let r = those-e test (suc from) size u in (omega (arith, r .0), omega (arith, r .1), r .2)) (test from) refl m
+  where
+    go : (List·Memᴰ i (those test (suc from) size) → (from ≤ i) × (i < from + suc size) × T (test i)) → (b : Bool) → test from ≡ b
+        → List·Memᴰ i (elim b [ true ↦ from ∷ those test (suc from) size | false ↦ those test (suc from) size ]) → (from ≤ i) × (i < from + suc size) × T (test i)
+    go below true b u = elim (List·Memᴰ·cases-cons u) [ inl e ↦ (omega arith, omega arith, subst⁻¹ (λ (k : ℕ). T (test k)) e (so b)) | inr v ↦ below v ]
+    go below false b u = below u
+
+pub those-i : (test : ℕ → Bool) (from size i : ℕ) → from ≤ i → i < from + size → T (test i) → List·Memᴰ i (those test from size)
+those-i test from zero i l h t = absurd (omega arith)
+those-i test from (suc size) i l h t = go (λ ne. those-i test (suc from) size i (omega arith) (omega arith) t) (test from) refl
+  where
+    go : (¬ (from ≡ i) → List·Memᴰ i (those test (suc from) size)) → (b : Bool) → test from ≡ b
+        → List·Memᴰ i (elim b [ true ↦ from ∷ those test (suc from) size | false ↦ those test (suc from) size ])
+    go below true b = elim (ℕ-discrete from i) [ yes e ↦ List·Memᴰ·head (sym e) | no ne ↦ List·Memᴰ·tail (below ne) ]
+    go below false b = below (λ q. so-not b (subst⁻¹ (λ (k : ℕ). T (test k)) q t))
+
+-- What the first entry that passes a test is.
+pub data Find {A : Type 0} (test : A → Bool) (l : List A) : Option A → Type 0 where
+  missing : ((a : A) → List·Memᴰ a l → ¬ T (test a)) → Find test l none
+  hit : {a : A} → List·Memᴰ a l → T (test a) → Find test l (some a)
+
+pub find-is : {A : Type 0} (test : A → Bool) (l : List A) → Find test l (find test l)
+find-is test [] = missing (λ a m t. List·Memᴰ·not-nil m)
+find-is {A} test (b ∷ l) = go (test b) refl (find test l) (find-is test l)
+  where
+    go : (c : Bool) → test b ≡ c → (r : Option A) → Find test l r → Find test (b ∷ l) (elim c [ true ↦ some b | false ↦ r ])
+    go true e r v = hit (List·Memᴰ·head refl) (so e)
+    go false e none (missing h) = missing (λ a m t. elim (List·Memᴰ·cases-cons m) [ inl q ↦ so-not e (subst (λ (x : A). T (test x)) q t) | inr n ↦ h a n t ])
+    go false e (some a) (hit m t) = hit (List·Memᴰ·tail m) t
+
+pub find-none : {A : Type 0} (test : A → Bool) (l : List A) → (find test l ≡ none) ↔ ((a : A) → List·Memᴰ a l → ¬ T (test a))
+find-none {A} test l = go (find test l) (find-is test l)
+  where
+    go : (o : Option A) → Find test l o → (o ≡ none) ↔ ((a : A) → List·Memᴰ a l → ¬ T (test a))
+    go none (missing h) = (λ e. h, λ k. refl)
+    go (some a) (hit m t) = (λ e. none-some (sym e), λ k. absurd (k a m t))
+
+-- A search of searches finds nothing exactly where none of them does.
+pub place-none : (look : ℕ → Option ℕ) (from size : ℕ) → (firstPlace look from size ≡ none) ↔ ((k : ℕ) → from ≤ k → k < from + size → look k ≡ none)
+place-none look from zero = (λ e k l h. absurd (omega arith), λ h. refl)
+place-none look from (suc size) = go (look from) refl (place-none look (suc from) size)
+  where
+    go : (o : Option ℕ) → look from ≡ o → (firstPlace look (suc from) size ≡ none) ↔ ((k : ℕ) → suc from ≤ k → k < suc from + size → look k ≡ none)
+        → (_≡_ {A = Option (ℕ × ℕ)} (elim o [ some x ↦ some (from, x) | none ↦ firstPlace look (suc from) size ]) none) ↔ ((k : ℕ) → from ≤ k → k < from + suc size → look k ≡ none)
+    go none q next = (
+      λ e k l h. elim (ℕ-discrete k from) [ yes c ↦ rw (c, q) | no c ↦ next .0 e k (omega arith) (omega arith) ],
+      λ h. next .1 (λ k l m. h k (omega arith) (omega arith)),
+    )
+    go (some x) q next = (λ e. none-some (sym e), λ h. none-some (sym (h from (omega arith) (omega arith)) ∙ q))
+
+pub firstOf-none : {A : Type 0} (l : List (Option A)) → (firstOf l ≡ none) ↔ ((o : Option A) → List·Memᴰ o l → o ≡ none)
+firstOf-none [] = (λ e o m. absurd (List·Memᴰ·not-nil m), λ h. refl)
+firstOf-none {A} (o ∷ l) = go o (firstOf-none l)
+  where
+    go : (o : Option A) → (firstOf l ≡ none) ↔ ((p : Option A) → List·Memᴰ p l → p ≡ none)
+        → (_≡_ {A = Option A} (elim o [ some a ↦ some a | none ↦ firstOf l ]) none) ↔ ((p : Option A) → List·Memᴰ p (o ∷ l) → p ≡ none)
+    go none next = (λ e p m. elim (List·Memᴰ·cases-cons m) [ inl q ↦ q | inr n ↦ next .0 e p n ], λ h. next .1 (λ p m. h p (List·Memᴰ·tail m)))
+    go (some a) next = (λ e. none-some (sym e), λ h. none-some (sym (h (some a) (List·Memᴰ·head refl))))

@@ -1,0 +1,32 @@
+-- Supercube-dhf (document 01: growing a required cube).
+use mathlib.Core.Bool.{Bool}
+use mathlib.Core.List.{List}
+use mathlib.Core.Option.{none, some}
+use Prim.Native.Nat.{ℕ, zero, suc}
+use Rattle.hazard.specs.Search.{find}
+use Rattle.hazard.specs.Cube.{Cube, join}
+use Rattle.hazard.specs.Sets.{Privileged}
+use Rattle.hazard.specs.Implicant.{illegal, lowestZero}
+
+-- How growth ends: legal, with the cube and the steps taken, or blocked, with the lowest zero and the steps taken.
+pub data Growth : Type 0 where
+  Legal : Cube → ℕ → Growth
+  Blocked : ℕ → ℕ → Growth
+
+abbrev pub steps : Growth → ℕ
+steps (Legal c s) = s
+steps (Blocked z s) = s
+
+module _ (n : ℕ) (off : ℕ → Bool) (vs : List Privileged) where
+  -- While the cube has no zero and some illegal intersection, the first privileged cube so met has its start point taken in.
+  -- Each step frees an input, so the fuel never decides where growth ends.
+  abbrev pub growFrom : ℕ → Cube → ℕ → Growth
+  growFrom zero c s = elim (lowestZero n off c) [ some z ↦ Blocked z s | none ↦ Legal c s ]
+  growFrom (suc fuel) c s =
+      elim (lowestZero n off c) [
+        | some z ↦ Blocked z s
+        | none ↦ elim (find (illegal c) vs) [ some v ↦ growFrom fuel (join c (v .start)) (suc s) | none ↦ Legal c s ]
+      ]
+
+  abbrev pub grow : Cube → Growth
+  grow c = growFrom n c 0

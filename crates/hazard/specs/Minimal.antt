@@ -1,0 +1,45 @@
+-- The minimiser: its refusals, and what its network satisfies.
+use mathlib.Core.List.{List, [], _∷_, _++_, map, List·Memᴰ}
+use mathlib.Core.Option.{Option, none, some}
+use Prim.Native.Nat.{ℕ, _*_, _≤_, _<_}
+use lib.Dec.{ltb}
+use lib.ListN.{length}
+use Rattle.hazard.specs.Search.{firstOf}
+use Rattle.hazard.specs.Cube.{Cube}
+use Rattle.hazard.specs.Transition.{off}
+use Rattle.hazard.specs.Sets.{Required, required, privileged}
+use Rattle.hazard.specs.Implicant.{DhfPrime}
+use Rattle.hazard.specs.Growth.{Legal, Blocked, grow}
+use Rattle.hazard.specs.Cover.{Network, without, HazardFreeCover}
+use Rattle.hazard.specs.HazardFree.{HazardFree}
+use Rattle.hazard.specs.Refusal.{Refusal, refuseIf, inputChecks}
+
+module _ (n : ℕ) (f ts : List ℕ) where
+  -- 9: the buffer is shorter than n bytes for each required cube.
+  abbrev pub roomCheck : ℕ → Option Refusal
+  roomCheck room = refuseIf (ltb room (n * length (required n f ts))) 9
+
+  -- 10: the required cube blocks; its transition and label, the steps of its growth, and the zero that it ends at.
+  abbrev pub blockCheck : Required → Option Refusal
+  blockCheck r =
+      elim (grow n (off f) (privileged n f ts) (r .cube)) [
+        | Legal c s ↦ none
+        | Blocked z s ↦ some (record { number = 10; transition = r .transition; point = r .label; steps = s; lowest = z; product = 0 })
+      ]
+
+  -- The first required cube that blocks.
+  abbrev pub blocking : Option Refusal
+  blocking = firstOf (map blockCheck (required n f ts))
+
+  -- The minimiser's checks, in their order, for a buffer of room bytes.
+  abbrev pub minimiserChecks : ℕ → List (Option Refusal)
+  minimiserChecks room = inputChecks n f ts ++ (roomCheck room ∷ blocking ∷ [])
+
+-- What holds of the minimiser's network: every product is a dhf-prime, the network is a hazard-free cover and hazard-free,
+-- no product can be dropped, and there are at most as many as required cubes.
+pub record Minimal (n : ℕ) (f ts : List ℕ) (net : Network) : Type 0 where
+  pub primes : (p : Cube) → List·Memᴰ p net → DhfPrime n (off f) (privileged n f ts) p
+  pub cover : HazardFreeCover n f ts net
+  pub hazardFree : HazardFree n f ts net
+  pub irredundant : (j : ℕ) → j < length net → ¬ HazardFree n f ts (without j net)
+  pub few : length net ≤ length (required n f ts)

@@ -1,0 +1,85 @@
+-- The verifier's verdict (document 01: the marker's).
+use mathlib.Core.Bool.{not, _||_}
+use mathlib.Core.List.{List, [], _∷_, _++_}
+use mathlib.Core.Option.{Option, none, some, Option·map}
+use Prim.Native.Nat.{ℕ, zero, suc, _/_, _%_}
+use lib.Dec.{eqb, ltb}
+use lib.ListN.{length, take, drop}
+use Rattle.hazard.specs.Search.{first, firstPlace, find, firstOf}
+use Rattle.hazard.specs.Cube.{isProduct}
+use Rattle.hazard.specs.Transition.{off}
+use Rattle.hazard.specs.Sets.{Privileged, required, privileged}
+use Rattle.hazard.specs.Implicant.{illegal, lowestZero}
+use Rattle.hazard.specs.Cover.{Network, productAt, covered}
+use Rattle.hazard.specs.Refusal.{Refusal, refuseIf, inputChecks}
+
+-- A network's bytes, cut into count products of n.
+abbrev pub cut : ℕ → ℕ → List ℕ → Network
+cut n zero bytes = []
+cut n (suc count) bytes = take n bytes ∷ cut n count (drop n bytes)
+
+abbrev pub products : ℕ → List ℕ → Network
+products n bytes = cut n (length bytes / n) bytes
+
+-- 11: the length is no multiple of n, or there are more than 2,048 products.
+abbrev pub productsCheck : ℕ → List ℕ → Option Refusal
+productsCheck n bytes = refuseIf (not (eqb (length bytes % n) 0) || ltb 2048 (length bytes / n)) 11
+
+-- 12: a byte above 2; the first such product.
+abbrev pub digitsCheck : ℕ → Network → Option Refusal
+digitsCheck n net =
+    Option·map (λ j. record { number = 12; transition = 0; point = 0; steps = 0; lowest = 0; product = j })
+    (first (λ j. not (isProduct n (productAt net j))) 0 (length net))
+
+-- The verifier's checks, in their order.
+abbrev pub verifierChecks : ℕ → List ℕ → List ℕ → List ℕ → List (Option Refusal)
+verifierChecks n f ts bytes = inputChecks n f ts ++ (productsCheck n bytes ∷ digitsCheck n (products n bytes) ∷ [])
+
+pub data Verdict : Type 0 where
+  refused : Refusal → Verdict
+  passed : Verdict
+  -- (a) fails: the product, and the point
+  holdsZero : ℕ → ℕ → Verdict
+  -- (c) fails: the product, and the transition
+  intersects : ℕ → ℕ → Verdict
+  -- (b) fails: the transition, and the label
+  uncovered : ℕ → ℕ → Verdict
+
+module _ (n : ℕ) (f ts : List ℕ) (net : Network) where
+  -- (a) by product and then point.
+  abbrev pub faultA : Option (ℕ × ℕ)
+  faultA = firstPlace (λ j. lowestZero n (off f) (productAt net j)) 0 (length net)
+
+  -- (c) by product and then transition.
+  abbrev pub faultC : Option (ℕ × ℕ)
+  faultC = firstPlace (λ j. Option·map (λ (v : Privileged). v .transition) (find (illegal (productAt net j)) (privileged n f ts))) 0 (length net)
+
+  -- The first fault, trying (a), then (c), then (b) in the order of required cubes.
+  abbrev pub fault : Verdict
+  fault =
+      elim faultA [
+        | some p ↦ holdsZero (p .0) (p .1)
+        | none ↦ elim faultC [
+          | some p ↦ intersects (p .0) (p .1)
+          | none ↦ elim (find (λ r. not (covered net (r .cube))) (required n f ts)) [ some r ↦ uncovered (r .transition) (r .label) | none ↦ passed ]
+        ]
+      ]
+
+-- The verdict on a network's bytes.
+abbrev pub verdict : ℕ → List ℕ → List ℕ → List ℕ → Verdict
+verdict n f ts bytes = elim (firstOf (verifierChecks n f ts bytes)) [ some r ↦ refused r | none ↦ fault n f ts (products n bytes) ]
+
+-- The verdict's number and the fields that go back with it. What a verdict does not name is 0.
+pub record Mark : Type 0 where
+  pub number : ℕ
+  pub refusal : ℕ
+  pub product : ℕ
+  pub transition : ℕ
+  pub point : ℕ
+
+abbrev pub mark : Verdict → Mark
+mark (refused r) = record { number = 0; refusal = r .number; product = r .product; transition = r .transition; point = r .point }
+mark passed = record { number = 1; refusal = 0; product = 0; transition = 0; point = 0 }
+mark (holdsZero j x) = record { number = 2; refusal = 0; product = j; transition = 0; point = x }
+mark (intersects j k) = record { number = 3; refusal = 0; product = j; transition = k; point = 0 }
+mark (uncovered k x) = record { number = 4; refusal = 0; product = 0; transition = k; point = x }

@@ -1,0 +1,1 @@
+// The definitions stand in specs/, the theory in proofs/.
