@@ -8,6 +8,7 @@ use Prim.Native.Nat.{ℕ, zero, suc, _+_, _≤_, _<_}
 use native.Mathlib.Omega.{arith}
 use native.Mathlib.Decide.{ℕ-discrete}
 use lib.Dec.{T}
+use lib.ListN.{getD}
 use Rattle.hazard.specs.Search.{found, first, those, firstPlace, find, firstOf}
 use Rattle.hazard.proofs.Test.{so, so-not}
 
@@ -121,11 +122,11 @@ place-none look from (suc size) = go (look from) refl (place-none look (suc from
     )
     go (some x) q next = (λ e. none-some (sym e), λ h. none-some (sym (h from (omega arith) (omega arith)) ∙ q))
 
-pub firstOf-none : {A : Type 0} (l : List (Option A)) → (firstOf l ≡ none) ↔ ((o : Option A) → List·Memᴰ o l → o ≡ none)
-firstOf-none [] = (λ e o m. absurd (List·Memᴰ·not-nil m), λ h. refl)
+pub firstOf-none : {A : Type 0} (l : List (Option A)) → (firstOf l ≡ none) ↔ ((i : ℕ) → getD l i none ≡ none)
+firstOf-none [] = (λ e i. refl, λ h. refl)
 firstOf-none {A} (o ∷ l) = go o (firstOf-none l)
   where
-    go : (o : Option A) → (firstOf l ≡ none) ↔ ((p : Option A) → List·Memᴰ p l → p ≡ none)
-        → (_≡_ {A = Option A} (elim o [ some a ↦ some a | none ↦ firstOf l ]) none) ↔ ((p : Option A) → List·Memᴰ p (o ∷ l) → p ≡ none)
-    go none next = (λ e p m. elim (List·Memᴰ·cases-cons m) [ inl q ↦ q | inr n ↦ next .0 e p n ], λ h. next .1 (λ p m. h p (List·Memᴰ·tail m)))
-    go (some a) next = (λ e. none-some (sym e), λ h. none-some (sym (h (some a) (List·Memᴰ·head refl))))
+    go : (o : Option A) → (firstOf l ≡ none) ↔ ((i : ℕ) → getD l i none ≡ none)
+        → (_≡_ {A = Option A} (elim o [ some a ↦ some a | none ↦ firstOf l ]) none) ↔ ((i : ℕ) → getD (o ∷ l) i none ≡ none)
+    go none next = (λ e. elim [ zero ↦ refl | suc i ↦ next .0 e i ], λ h. next .1 (λ i. h (suc i)))
+    go (some a) next = (λ e. none-some (sym e), λ h. none-some (sym (h 0)))

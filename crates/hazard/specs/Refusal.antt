@@ -1,11 +1,12 @@
 -- What goes back when work is declined, and the input rules: checks 1 to 8.
+use mathlib.Core.Path.{_≡_}
 use mathlib.Core.Bool.{Bool, cond, not, _||_}
 use mathlib.Core.List.{List, [], _∷_}
 use mathlib.Core.Option.{Option, none, some, Option·map}
 use Prim.Native.Nat.{ℕ, _%_, _^_}
 use lib.Dec.{eqb, leb, ltb}
 use lib.ListN.{length}
-use Rattle.hazard.specs.Search.{first, firstPlace}
+use Rattle.hazard.specs.Search.{first, firstPlace, firstOf}
 use Rattle.hazard.specs.Transition.{value, start, end, count, brokenAt, undefinedAt}
 use Rattle.hazard.specs.Sets.{required}
 
@@ -72,3 +73,7 @@ inputChecks n f ts =
     ∷ rulesCheck n f ts
     ∷ manyCheck n f ts
     ∷ []
+
+-- The input rules hold.
+abbrev pub Accepted : ℕ → List ℕ → List ℕ → Type 0
+Accepted n f ts = firstOf (inputChecks n f ts) ≡ none

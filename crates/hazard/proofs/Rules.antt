@@ -1,0 +1,139 @@
+-- What the input rules say of an accepted table and of each of its transitions.
+use mathlib.Core.Path.{_≡_, refl, sym}
+use mathlib.Core.Logic.{_≢_}
+use mathlib.Core.Bool.{Bool, true, false, not, _&&_, _||_}
+use mathlib.Core.List.{List}
+use mathlib.Core.Option.{Option, none, some, Option·map, map-eq-none-iff}
+use Prim.Native.Nat.{ℕ, zero, suc, _+_, _*_, _%_, _^_, _≤_, _<_}
+use native.Mathlib.Omega.{arith}
+use native.Mathlib.Decide.{ℕ-discrete, decLt}
+use lib.Dec.{T, eqb, leb, ltb, leb→le, ltb→lt, le→leb, lt→ltb}
+use lib.ListN.{length, getD, List·getD-eq-default}
+use Rattle.hazard.specs.Search.{first, firstPlace, firstOf}
+use Rattle.hazard.specs.Cube.{has, span}
+use Rattle.hazard.specs.Transition.{value, start, end, count, Kind, low, rise, fall, high, kindOf, kind, breaks, brokenAt, undefinedAt}
+use Rattle.hazard.specs.Sets.{kindAt, required}
+use Rattle.hazard.specs.Refusal.{Refusal, refusal, refuseIf, inputChecks, Accepted}
+use Rattle.hazard.proofs.Test.{tests, T-and, no-or, eqb-of, known}
+use Rattle.hazard.proofs.Search.{none-some, first-none, place-none, firstOf-none}
+use Rattle.hazard.proofs.Cube.{→has, span-left, span-right}
+
+-- A check that lets the input through.
+pub lets : (b : Bool) (number : ℕ) → refuseIf b number ≡ none → ¬ T b
+lets true number e t = none-some (sym e)
+lets false number e t = t
+
+-- The values at the two ends.
+abbrev pub EndValues : Kind → ℕ → ℕ → Type 0
+EndValues low u v = (u ≡ 0) × (v ≡ 0)
+EndValues rise u v = (u ≡ 0) × (v ≡ 1)
+EndValues fall u v = (u ≡ 1) × (v ≡ 0)
+EndValues high u v = (u ≡ 1) × (v ≡ 1)
+
+end-values : (u v : ℕ) → u < 2 → v < 2 → EndValues (kindOf (2 * u + v)) u v
+end-values zero zero h l = (refl, refl)
+end-values zero (suc zero) h l = (refl, refl)
+end-values zero (suc (suc v)) h l = absurd (omega arith)
+end-values (suc zero) zero h l = (refl, refl)
+end-values (suc zero) (suc zero) h l = (refl, refl)
+end-values (suc zero) (suc (suc v)) h l = absurd (omega arith)
+end-values (suc (suc u)) v h l = absurd (omega arith)
+
+-- The rules of a transition from a to b, of kind k.
+pub record RulesAt (n : ℕ) (f : List ℕ) (a b : ℕ) (k : Kind) : Type 0 where
+  pub start-lt : a < 2 ^ n
+  pub end-lt : b < 2 ^ n
+  pub ends : EndValues k (value f a) (value f b)
+  pub defined : (x : ℕ) → x < 2 ^ n → T (has (span n a b) x) → value f x < 2
+  pub kept : (x : ℕ) → x < 2 ^ n → T (has (span n a b) x) → ¬ T (breaks n f k a b x)
+
+module _ (n : ℕ) (f ts : List ℕ) (accepted : Accepted n f ts) where
+  -- Check i, counted from 0, lets it through.
+  passes : (i : ℕ) → getD (inputChecks n f ts) i none ≡ none
+  passes = firstOf-none (inputChecks n f ts) .0 accepted
+
+  pub few-inputs : (1 ≤ n) × (n ≤ 10)
+  few-inputs =
+      let t = no-or (eqb n 0) (ltb 10 n) (lets (eqb n 0 || ltb 10 n) 1 (passes 0)) in
+      let p : n ≢ 0 = λ e. t .0 (eqb-of e) in
+      let q : ¬ (10 < n) = λ l. t .1 (lt→ltb 10 n l) in (omega arith, omega arith)
+
+  pub table-length : length f ≡ 2 ^ n
+  table-length = elim (ℕ-discrete (length f) (2 ^ n)) [
+    | yes e ↦ e
+    | no ne ↦ absurd (lets (not (eqb (length f) (2 ^ n))) 2 (passes 1) (simp tests ne))
+  ]
+
+  pub bytes : (x : ℕ) → value f x ≤ 2
+  bytes x = elim (decLt x (length f)) [
+    | no l ↦ let e = List·getD-eq-default f 2 {n = x} (omega arith) in omega arith
+    | yes l ↦ elim (decLt 2 (value f x)) [
+      | no u ↦ omega arith
+      | yes u ↦ absurd (first-none (λ y. ltb 2 (value f y)) 0 (length f)
+          (map-eq-none-iff (λ y. refusal 3 0 y) (first (λ y. ltb 2 (value f y)) 0 (length f)) .0 (passes 2))
+          x (omega arith) (omega arith) (lt→ltb 2 (value f x) u))
+    ]
+  ]
+
+  pub list-length : (1 ≤ length ts) × (length ts % 2 ≡ 0) × (count ts ≤ 64)
+  list-length =
+      let t = no-or (eqb (length ts) 0) (eqb (length ts % 2) 1 || ltb 64 (count ts))
+      (lets (eqb (length ts) 0 || (eqb (length ts % 2) 1 || ltb 64 (count ts))) 4 (passes 3)) in
+      let u = no-or (eqb (length ts % 2) 1) (ltb 64 (count ts)) (t .1) in
+      let p : length ts ≢ 0 = λ e. t .0 (eqb-of e) in
+      let q : length ts % 2 ≢ 1 = λ e. u .0 (eqb-of e) in
+      let r : ¬ (64 < count ts) = λ l. u .1 (lt→ltb 64 (count ts) l) in
+      (omega arith, omega arith, omega arith)
+
+  pub points : (k : ℕ) → k < count ts → (start ts k < 2 ^ n) × (end ts k < 2 ^ n)
+  points k l =
+      let t = first-none (λ j. leb (2 ^ n) (start ts j) || leb (2 ^ n) (end ts j)) 0 (count ts)
+      (map-eq-none-iff (λ j. refusal 5 j 0) (first (λ j. leb (2 ^ n) (start ts j) || leb (2 ^ n) (end ts j)) 0 (count ts)) .0
+      (passes 4))
+      k (omega arith) (omega arith) in
+      let u = no-or (leb (2 ^ n) (start ts k)) (leb (2 ^ n) (end ts k)) t in
+      let p : ¬ (2 ^ n ≤ start ts k) = λ h. u .0 (le→leb (2 ^ n) (start ts k) h) in
+      let q : ¬ (2 ^ n ≤ end ts k) = λ h. u .1 (le→leb (2 ^ n) (end ts k) h) in
+      (omega arith, omega arith)
+
+  all-defined : (k : ℕ) → k < count ts → undefinedAt n f (start ts k) (end ts k) ≡ none
+  all-defined k l =
+      place-none (λ j. undefinedAt n f (start ts j) (end ts j)) 0 (count ts) .0
+      (map-eq-none-iff (λ p. refusal 6 (p .0) (p .1)) (firstPlace (λ j. undefinedAt n f (start ts j) (end ts j)) 0 (count ts)) .0
+      (passes 5))
+      k (omega arith) (omega arith)
+
+  all-kept : (k : ℕ) → k < count ts → brokenAt n f (start ts k) (end ts k) ≡ none
+  all-kept k l =
+      place-none (λ j. brokenAt n f (start ts j) (end ts j)) 0 (count ts) .0
+      (map-eq-none-iff (λ p. refusal 7 (p .0) (p .1)) (firstPlace (λ j. brokenAt n f (start ts j) (end ts j)) 0 (count ts)) .0
+      (passes 6))
+      k (omega arith) (omega arith)
+
+  pub required-few : length (required n f ts) ≤ 2048
+  required-few =
+      let t = lets (ltb 2048 (length (required n f ts))) 8
+      (passes 7) in
+      let p : ¬ (2048 < length (required n f ts)) = λ l. t (lt→ltb 2048 (length (required n f ts)) l) in omega arith
+
+  pub rules-at : (k : ℕ) → k < count ts → RulesAt n f (start ts k) (end ts k) (kindAt f ts k)
+  rules-at k l =
+      record {
+        start-lt = points k l .0;
+        end-lt = points k l .1;
+        ends = end-values (value f A) (value f B) (two A (points k l .0) (→has (span-left n A B))) (two B (points k l .1) (→has (span-right n A B)));
+        defined = two;
+        kept = λ x m t u. first-none (λ y. has (span n A B) y && breaks n f (kindAt f ts k) A B y) 0 (2 ^ n) (all-kept k l) x (omega arith) (omega arith) (simp T-and (t, u));
+      }
+    where
+      A : ℕ
+      A = start ts k
+
+      B : ℕ
+      B = end ts k
+
+      two : (x : ℕ) → x < 2 ^ n → T (has (span n A B) x) → value f x < 2
+      two x m t = let u = bytes x in elim (ℕ-discrete (value f x) 2) [
+        | no ne ↦ omega arith
+        | yes e ↦ absurd (first-none (λ y. has (span n A B) y && eqb (value f y) 2) 0 (2 ^ n) (all-defined k l) x (omega arith) (omega arith) (simp tests (t, e)))
+      ]
