@@ -51,7 +51,7 @@ module _ (n : ℕ) (off : ℕ → Bool) (vs : List Privileged) where
     pub runs : (fuel : ℕ) {c : Cube} (s : ℕ) → Digits n c → fixed c ≤ fuel → Grows c s (growFrom n off vs fuel c s)
     runs zero {c} s w l = go (lowestZero n off c) refl
       where
-        all : (r : Option Privileged) → Meeting n off vs wide c r → r ≡ none
+        all : (r : Option Privileged) → Meeting vs c r → r ≡ none
         all none m = refl
         all (some v) (illegally m i) = absurd (i .lacks (none-fixed c l (v .start)))
 
@@ -63,7 +63,7 @@ module _ (n : ℕ) (off : ℕ → Bool) (vs : List Privileged) where
         Next : Type 0
         Next = (v : Privileged) → fixed (join c (v .start)) ≤ fuel → Grows (join c (v .start)) (suc s) (growFrom n off vs fuel (join c (v .start)) (suc s))
 
-        more : (r : Option Privileged) → lowestZero n off c ≡ none → find (illegal c) vs ≡ r → Meeting n off vs wide c r → Next
+        more : (r : Option Privileged) → lowestZero n off c ≡ none → find (illegal c) vs ≡ r → Meeting vs c r → Next
             → Grows c s (elim r [ some v ↦ growFrom n off vs fuel (join c (v .start)) (suc s) | none ↦ Legal c s ])
         more none e d m next = done e d
         more (some v) e d (illegally m i) next = step e d (next v (omega (arith, join-less c (v .start) (i .lacks))))
@@ -73,7 +73,7 @@ module _ (n : ℕ) (off : ℕ → Bool) (vs : List Privileged) where
         go (some z) e next = stop e
         go none e next = more (find (illegal c) vs) e refl (meeting-is n off vs wide w) next
 
-    least-step : {c : Cube} {v : Privileged} → Meeting n off vs wide c (some v) → Least c (join c (v .start))
+    least-step : {c : Cube} {v : Privileged} → Meeting vs c (some v) → Least c (join c (v .start))
     least-step {c} {v} (illegally m i) q l j = join-least j (l v m (i .shared) (inside-has j (i .mine)) (i .its))
 
     pub ends : {c : Cube} {s : ℕ} {g : Growth} → Digits n c → Grows c s g → Ends c g
@@ -81,20 +81,20 @@ module _ (n : ℕ) (off : ℕ → Bool) (vs : List Privileged) where
       where
         go : {s : ℕ} → Zero n off c (some z) → Ends c (Blocked z s)
         go (zero· b h o) = blocked (inside-refl c) (λ q a b. b) b h o
-    ends w (done {c = c} e d) = go (subst (Zero n off c) e (zero-is n off c)) (subst (Meeting n off vs wide c) d (meeting-is n off vs wide w))
+    ends w (done {c = c} e d) = go (subst (Zero n off c) e (zero-is n off c)) (subst (Meeting vs c) d (meeting-is n off vs wide w))
       where
-        go : {s : ℕ} → Zero n off c none → Meeting n off vs wide c none → Ends c (Legal c s)
+        go : {s : ℕ} → Zero n off c none → Meeting vs c none → Ends c (Legal c s)
         go (clean h) (closed k) = legal (record { digits = w; clean = h; closed = k }) (inside-refl c) (λ q a b. b)
     ends w (step {c = c} {v = v} e d r) =
-        ends-back (inside-join c (v .start)) (least-step (subst (Meeting n off vs wide c) d (meeting-is n off vs wide w))) (ends (join-digits (v .start) w) r)
+        ends-back (inside-join c (v .start)) (least-step (subst (Meeting vs c) d (meeting-is n off vs wide w))) (ends (join-digits (v .start) w) r)
 
     grows-steps : {c : Cube} {s : ℕ} {g : Growth} → Digits n c → Grows c s g → steps g ≤ s + fixed c
     grows-steps w (stop e) = omega arith
     grows-steps w (done e d) = omega arith
     grows-steps w (step {c = c} {s = s} {v = v} {g = g} e d r) =
-        omega (arith, less (subst (Meeting n off vs wide c) d (meeting-is n off vs wide w)), grows-steps (join-digits (v .start) w) r)
+        omega (arith, less (subst (Meeting vs c) d (meeting-is n off vs wide w)), grows-steps (join-digits (v .start) w) r)
       where
-        less : Meeting n off vs wide c (some v) → fixed (join c (v .start)) < fixed c
+        less : Meeting vs c (some v) → fixed (join c (v .start)) < fixed c
         less (illegally m i) = join-less c (v .start) (i .lacks)
 
     -- Any two fuels that are enough give the same.

@@ -60,15 +60,20 @@ zero-is n off c = go (lowestZero n off c) (first-is (λ x. has c x && off x) 0 (
     go none (nowhere h) = clean (λ x l o k. h x (omega arith) (omega arith) (simp T-and (→has k, o)))
     go (some z) (lowest t l m h) = let (i, j) = simp T-and at t in zero· {z = z} (omega arith) (has→ c z i) j
 
-module _ (n : ℕ) (off : ℕ → Bool) (vs : List Privileged) (wide : Wide n vs) where
-  pub data Meeting (c : Cube) : Option Privileged → Type 0 where
-    closed : Closed vs c → Meeting c none
-    illegally : {v : Privileged} → List·Memᴰ v vs → Illegal c v → Meeting c (some v)
+pub data Meeting (vs : List Privileged) (c : Cube) : Option Privileged → Type 0 where
+  closed : Closed vs c → Meeting vs c none
+  illegally : {v : Privileged} → List·Memᴰ v vs → Illegal c v → Meeting vs c (some v)
 
-  pub meeting-is : {c : Cube} → Digits n c → Meeting c (find (illegal c) vs)
+-- A dhf-prime, by points.
+pub record Prime (n : ℕ) (off : ℕ → Bool) (vs : List Privileged) (p : Cube) : Type 0 where
+  pub dhf : Dhf n off vs p
+  pub maximal : (q : Cube) → Dhf n off vs q → Inside p q → Inside q p
+
+module _ (n : ℕ) (off : ℕ → Bool) (vs : List Privileged) (wide : Wide n vs) where
+  pub meeting-is : {c : Cube} → Digits n c → Meeting vs c (find (illegal c) vs)
   meeting-is {c} w = go (find (illegal c) vs) (find-is (illegal c) vs)
     where
-      go : (r : Option Privileged) → Find (illegal c) vs r → Meeting c r
+      go : (r : Option Privileged) → Find (illegal c) vs r → Meeting vs c r
       go none (missing h) = closed (λ v m x i j. elim (has-dec c (v .start)) [
         | yes y ↦ y
         | no y ↦ absurd (h v m (→illegal {v = v} w (wide v m) (record { shared = x; mine = i; its = j; lacks = y })))
@@ -79,17 +84,12 @@ module _ (n : ℕ) (off : ℕ → Bool) (vs : List Privileged) (wide : Wide n vs
   pub dhf-is : {c : Cube} → Digits n c → T (dhfImplicant n off vs c) ↔ Dhf n off vs c
   dhf-is {c} w = go (lowestZero n off c) (zero-is n off c) (find (illegal c) vs) (meeting-is w)
     where
-      go : (z : Option ℕ) → Zero n off c z → (v : Option Privileged) → Meeting c v → T (not (found z) && not (found v)) ↔ Dhf n off vs c
+      go : (z : Option ℕ) → Zero n off c z → (v : Option Privileged) → Meeting vs c v → T (not (found z) && not (found v)) ↔ Dhf n off vs c
       go none (clean h) none (closed k) = (λ t. record { digits = w; clean = h; closed = k }, λ d. tt)
       go none (clean h) (some v) (illegally m i) = (λ t. absurd t, λ d. i .lacks (d .closed v m (i .shared) (i .mine) (i .its)))
       go (some z) (zero· b h o) v m = (λ t. absurd t, λ d. d .clean z b o h)
 
-  -- A dhf-prime, by points.
-  pub record Prime (p : Cube) : Type 0 where
-    pub dhf : Dhf n off vs p
-    pub maximal : (q : Cube) → Dhf n off vs q → Inside p q → Inside q p
-
-  pub prime-is : (p : Cube) → DhfPrime n off vs p ↔ Prime p
+  pub prime-is : (p : Cube) → DhfPrime n off vs p ↔ Prime n off vs p
   prime-is p = (
     λ h. let w = digits→ n p (h .product) in record {
       dhf = dhf-is w .0 (h .dhf);

@@ -3,6 +3,11 @@ pub mod Search
 pub mod Digit
 pub mod Cube
 pub mod Point
+pub mod Meaning
+pub mod Rules
 pub mod Implicant
 pub mod Growth
-pub mod Rules
+pub mod Expansion
+pub mod Network
+pub mod Existence
+pub mod Choice

@@ -5,6 +5,7 @@ pub mod Transition
 pub mod Sets
 pub mod Implicant
 pub mod Growth
+pub mod Expansion
 pub mod Cover
 pub mod Run
 pub mod HazardFree

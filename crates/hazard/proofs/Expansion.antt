@@ -1,0 +1,55 @@
+-- One pass of raising ends at a dhf-prime.
+use mathlib.Core.Path.{_≡_, refl}
+use mathlib.Core.Bool.{Bool}
+use mathlib.Core.List.{List}
+use Prim.Native.Nat.{ℕ, zero, suc, _+_, _≤_, _<_}
+use native.Mathlib.Omega.{arith}
+use native.Mathlib.Decide.{ℕ-discrete}
+use lib.ListN.{getD, set}
+use Rattle.hazard.specs.Cube.{Cube}
+use Rattle.hazard.specs.Sets.{Privileged}
+use Rattle.hazard.specs.Growth.{Growth, Legal, Blocked, grow}
+use Rattle.hazard.specs.Expansion.{grownOr, raise, expandFrom, expand}
+use Rattle.hazard.proofs.Cube.{Inside, inside-refl, inside-trans, inside-back, set-digits, inside-set, set-inside, free-inside, free-set}
+use Rattle.hazard.proofs.Implicant.{Dhf, Wide, Prime}
+use Rattle.hazard.proofs.Growth.{Ends, legal, blocked, grow-ends, blocked-none}
+
+module _ (n : ℕ) (off : ℕ → Bool) (vs : List Privileged) (wide : Wide n vs) where
+  -- p′ is a dhf-implicant around p; and if a dhf-implicant around p′ frees one of the m inputs from i on, so does p′.
+  pub record Raised (i m : ℕ) (p p′ : Cube) : Type 0 where
+    pub dhf : Dhf n off vs p′
+    pub around : Inside p p′
+    pub most : (q : Cube) → Dhf n off vs q → Inside p′ q → (j : ℕ) → i ≤ j → j < i + m → getD q j 2 ≡ 2 → getD p′ j 2 ≡ 2
+
+  pub raise-is : {p : Cube} (i : ℕ) → Dhf n off vs p → Raised i 1 p (raise n off vs p i)
+  raise-is {p} i d = go (grow n off vs (set p i 2)) (grow-ends n off vs wide (set-digits i (d .digits)))
+    where
+      go : (g : Growth) → Ends n off vs (set p i 2) g → Raised i 1 p (grownOr p g)
+      go (Legal c s) (legal h k m) = record { dhf = h; around = inside-trans (inside-set p i) k; most = λ q a b j x y e. let z : i ≡ j = omega arith in rw (← z) (free-inside i k (free-set p i)) }
+      go (Blocked z s) (blocked k m b h o) = record {
+        dhf = d;
+        around = inside-refl p;
+        most = λ q a t j x y e. let w : j ≡ i = omega arith in absurd (blocked-none n off vs wide (blocked {z = z} {s = s} k m b h o) q a (set-inside i t (rw w at e)));
+      }
+
+  expandFrom-is : {p : Cube} (i m : ℕ) → Dhf n off vs p → Raised i m p (expandFrom n off vs i m p)
+  expandFrom-is {p} i zero d = record { dhf = d; around = inside-refl p; most = λ q a b j x y. absurd (omega arith) }
+  expandFrom-is {p} i (suc m) d =
+      let r = raise-is i d in
+      let t = expandFrom-is (suc i) m (r .dhf) in
+      record {
+        dhf = t .dhf;
+        around = inside-trans (r .around) (t .around);
+        most = λ q a b j x y e. elim (ℕ-discrete i j) [
+          | yes k ↦ free-inside j (t .around) (r .most q a (inside-trans (t .around) b) j (omega arith) (omega arith) e)
+          | no k ↦ t .most q a b j (omega arith) (omega arith) e
+        ];
+      }
+
+  pub expand-prime : {p : Cube} → Dhf n off vs p → Prime n off vs (expand n off vs p)
+  expand-prime d =
+      let t = expandFrom-is 0 n d in
+      record { dhf = t .dhf; maximal = λ q a b. inside-back (t .dhf .digits) b (λ i h. t .most q a b i (omega arith) (omega arith)) }
+
+  pub expand-around : {p : Cube} → Dhf n off vs p → Inside p (expand n off vs p)
+  expand-around d = expandFrom-is 0 n d .around
