@@ -9,11 +9,11 @@ use Rattle.hazard.specs.Cube.{Cube}
 use Rattle.hazard.specs.Sets.{Required, Privileged}
 use Rattle.hazard.specs.Growth.{Growth, Legal, Blocked, grow}
 use Rattle.hazard.specs.Expansion.{grownOr}
-use Rattle.hazard.specs.Cover.{Network, WellFormed, covered, Cover}
+use Rattle.hazard.specs.Cover.{Network, productAt, WellFormed, covered, Cover}
 use Rattle.hazard.proofs.Cube.{Digits, Inside, digits→, →digits, has→, →has, has-dec, inside→, →inside}
 use Rattle.hazard.proofs.Implicant.{illegal→, →illegal, Dhf, Wide}
 use Rattle.hazard.proofs.Growth.{Ends, legal, blocked, grow-ends, blocked-none}
-use Rattle.hazard.proofs.Network.{covered-e, covered-i}
+use Rattle.hazard.proofs.Network.{entry-at, covered-e, covered-by}
 
 -- Growth ended legal.
 abbrev pub Grown : Growth → Type 0
@@ -59,7 +59,7 @@ module _ (n : ℕ) (off : ℕ → Bool) (rs : List Required) (vs : List Privileg
       map grownCube rs,
       λ p m. →digits (dhf p m .digits),
       dhf-cover (map grownCube rs) dhf
-          (λ r m. covered-i (map grownCube rs) (r .cube) (grownCube r) (Memᴰ·map grownCube m) (→inside (grown-is (r .cube) (digits r m) (h r m) .1))),
+          (λ r m. covered-by (r .cube) (Memᴰ·map grownCube m) (→inside (grown-is (r .cube) (digits r m) (h r m) .1))),
     )
       where
         dhf : (p : Cube) → List·Memᴰ p (map grownCube rs) → Dhf n off vs p
@@ -70,7 +70,8 @@ module _ (n : ℕ) (off : ℕ → Bool) (rs : List Required) (vs : List Privileg
       where
         go : (g : Growth) → Ends n off vs (r .cube) g → Grown g
         go (Legal c s) e = tt
-        go (Blocked z s) e = let (p, u, i) = covered-e net (r .cube) (h .b r m) in blocked-none n off vs wide e p (cover-dhf net good h p u) (inside→ (r .cube) p i)
+        go (Blocked z s) e = let (j, l, i) = covered-e net (r .cube) (h .b r m) in
+            let p = productAt net j in blocked-none n off vs wide e p (cover-dhf net good h p (entry-at net j l)) (inside→ (r .cube) p i)
 
     pub cover-exists : ((r : Required) → List·Memᴰ r rs → Grown (grow n off vs (r .cube))) ↔ ((net : Network) × WellFormed n net × Cover n off rs vs net)
     cover-exists = (free-cover, λ h. cover-free (h .0) (h .1) (h .2))

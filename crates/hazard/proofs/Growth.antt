@@ -33,6 +33,16 @@ module _ (n : ℕ) (off : ℕ → Bool) (vs : List Privileged) where
   grows-once (step e a _) (done d b) = cc
   grows-once (step {c = c} {s = s} {v = u} {g = g} e a r) (step {v = v} {g = h} d b t) = let p : v ≡ u = cc in grows-once r (rw p at t)
 
+  -- Steps are only added, and a cube with no zero takes at least one before it is blocked.
+  grows-more : {c : Cube} {s : ℕ} {g : Growth} → Grows c s g → s ≤ steps g
+  grows-more (stop e) = omega arith
+  grows-more (done e d) = omega arith
+  grows-more (step e d r) = omega (arith, grows-more r)
+
+  pub blocked-later : {c : Cube} {s z t : ℕ} → lowestZero n off c ≡ none → Grows c s (Blocked z t) → s < t
+  blocked-later q (stop e) = let y : _≡_ {A = ℕ} 0 1 = cc in absurd (omega arith)
+  blocked-later q (step e d r) = grows-more r
+
   -- d lies inside every closed cube around c.
   abbrev pub Least : Cube → Cube → Type 0
   Least c d = (q : Cube) → Closed vs q → Inside c q → Inside d q

@@ -1,13 +1,28 @@
+-- Tests, searches, cubes and points.
 pub mod Test
 pub mod Search
 pub mod Digit
 pub mod Cube
 pub mod Point
 pub mod Meaning
+-- The input rules, and the sets that they let through.
 pub mod Rules
+pub mod Sets
+pub mod Monotone
+pub mod Source
+-- Dhf-implicants, growth, expansion, choice.
 pub mod Implicant
 pub mod Growth
 pub mod Expansion
 pub mod Network
 pub mod Existence
 pub mod Choice
+-- Runs of wires, and the theorem.
+pub mod Wire
+pub mod Trace
+pub mod View
+pub mod Moment
+pub mod Label
+pub mod Transition
+pub mod Theorem
+pub mod Minimal

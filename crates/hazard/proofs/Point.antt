@@ -22,6 +22,15 @@ bit-suc x i = rw (div-div-eq-div-mul, pow-suc, mul-comm 2 (2 ^ i))
 pub bit-lt : (x i : ℕ) → bit x i < 2
 bit-lt x i = mod-lt (x / 2 ^ i) (omega arith)
 
+-- A point is known by its inputs.
+pub bits-same : (n x y : ℕ) → x < 2 ^ n → y < 2 ^ n → ((i : ℕ) → i < n → bit x i ≡ bit y i) → x ≡ y
+bits-same zero x y l m h = omega arith
+bits-same (suc n) x y l m h =
+    let p = pow-suc 2 n in
+    let low : x % 2 ≡ y % 2 = sym (bit-zero x) ∙ h 0 (omega arith) ∙ bit-zero y in
+    let high = bits-same n (x / 2) (y / 2) (omega arith) (omega arith) (λ i k. sym (bit-suc x i) ∙ h (suc i) (omega arith) ∙ bit-suc y i) in
+    omega arith
+
 abbrev pub dig : Cube → ℕ → ℕ
 dig c i = getD c i 2
 
@@ -81,6 +90,10 @@ in-i n p q x h = has-i (span n p q) x (λ i ne. let r = span-lit n p q i ne in r
 
 pub in-swap : (n p q x : ℕ) → In n p q x → In n q p x
 in-swap n p q x h i l e = e ∙ h i l (sym e)
+
+-- [P,Q] is [Q,P].
+pub span-swap : (n a b x : ℕ) → T (has (span n a b) x) → T (has (span n b a) x)
+span-swap n a b x t = in-i n b a x (in-swap n a b x (in-e n a b x t))
 
 -- A cube contains [P,Q] exactly if it contains P and Q, and then every point between.
 pub ends-e : (n p q : ℕ) (c : Cube) → T (inside (span n p q) c) → T (has c p) × T (has c q)

@@ -3,18 +3,18 @@ use mathlib.Core.Path.{_≡_, refl, sym}
 use mathlib.Core.Logic.{_≢_}
 use mathlib.Core.Bool.{Bool, true, false, not, _&&_, _||_}
 use mathlib.Core.List.{List}
-use mathlib.Core.Option.{Option, none, some, Option·map, map-eq-none-iff}
+use mathlib.Core.Option.{none, map-eq-none-iff}
 use Prim.Native.Nat.{ℕ, zero, suc, _+_, _*_, _%_, _^_, _≤_, _<_}
 use native.Mathlib.Omega.{arith}
 use native.Mathlib.Decide.{ℕ-discrete, decLt}
-use lib.Dec.{T, eqb, leb, ltb, leb→le, ltb→lt, le→leb, lt→ltb}
+use lib.Dec.{T, eqb, leb, ltb, le→leb, lt→ltb}
 use lib.ListN.{length, getD, List·getD-eq-default}
-use Rattle.hazard.specs.Search.{first, firstPlace, firstOf}
+use Rattle.hazard.specs.Search.{first, firstPlace}
 use Rattle.hazard.specs.Cube.{has, span}
-use Rattle.hazard.specs.Transition.{value, start, end, count, Kind, low, rise, fall, high, kindOf, kind, breaks, brokenAt, undefinedAt}
+use Rattle.hazard.specs.Transition.{value, start, end, count, Kind, low, rise, fall, high, kindOf, breaks, brokenAt, undefinedAt}
 use Rattle.hazard.specs.Sets.{kindAt, required}
-use Rattle.hazard.specs.Refusal.{Refusal, refusal, refuseIf, inputChecks, Accepted}
-use Rattle.hazard.proofs.Test.{tests, T-and, no-or, eqb-of, known}
+use Rattle.hazard.specs.Refusal.{refusal, refuseIf, inputChecks, Accepted}
+use Rattle.hazard.proofs.Test.{tests, T-and, no-or, eqb-of}
 use Rattle.hazard.proofs.Search.{none-some, first-none, place-none, firstOf-none}
 use Rattle.hazard.proofs.Cube.{→has, span-left, span-right}
 
@@ -30,7 +30,7 @@ EndValues rise u v = (u ≡ 0) × (v ≡ 1)
 EndValues fall u v = (u ≡ 1) × (v ≡ 0)
 EndValues high u v = (u ≡ 1) × (v ≡ 1)
 
-end-values : (u v : ℕ) → u < 2 → v < 2 → EndValues (kindOf (2 * u + v)) u v
+pub end-values : (u v : ℕ) → u < 2 → v < 2 → EndValues (kindOf (2 * u + v)) u v
 end-values zero zero h l = (refl, refl)
 end-values zero (suc zero) h l = (refl, refl)
 end-values zero (suc (suc v)) h l = absurd (omega arith)

@@ -2,7 +2,7 @@
 use mathlib.Core.Path.{_≡_, refl, sym, _∙_, subst, subst⁻¹}
 use mathlib.Core.Logic.{_↔_, inl, inr}
 use mathlib.Core.Bool.{Bool, true, false}
-use mathlib.Core.List.{List, [], _∷_, List·Memᴰ, List·Memᴰ·head, List·Memᴰ·tail, List·Memᴰ·not-nil, List·Memᴰ·cases-cons}
+use mathlib.Core.List.{List, [], _∷_, map, List·Memᴰ, List·Memᴰ·head, List·Memᴰ·tail, List·Memᴰ·not-nil, List·Memᴰ·cases-cons}
 use mathlib.Core.Option.{Option, none, some}
 use Prim.Native.Nat.{ℕ, zero, suc, _+_, _≤_, _<_}
 use native.Mathlib.Omega.{arith}
@@ -130,3 +130,21 @@ firstOf-none {A} (o ∷ l) = go o (firstOf-none l)
         → (_≡_ {A = Option A} (elim o [ some a ↦ some a | none ↦ firstOf l ]) none) ↔ ((i : ℕ) → getD (o ∷ l) i none ≡ none)
     go none next = (λ e. elim [ zero ↦ refl | suc i ↦ next .0 e i ], λ h. next .1 (λ i. h (suc i)))
     go (some a) next = (λ e. none-some (sym e), λ h. none-some (sym (h 0)))
+
+pub firstOf-map : {A B : Type 0} (look : A → Option B) (l : List A) → (firstOf (map look l) ≡ none) ↔ ((a : A) → List·Memᴰ a l → look a ≡ none)
+firstOf-map look [] = (λ e a m. absurd (List·Memᴰ·not-nil m), λ h. refl)
+firstOf-map {A} {B} look (b ∷ l) = go (look b) refl (firstOf-map look l)
+  where
+    go : (o : Option B) → look b ≡ o → (firstOf (map look l) ≡ none) ↔ ((a : A) → List·Memᴰ a l → look a ≡ none)
+        → (_≡_ {A = Option B} (elim o [ some c ↦ some c | none ↦ firstOf (map look l) ]) none) ↔ ((a : A) → List·Memᴰ a (b ∷ l) → look a ≡ none)
+    go none q next = (λ e a m. elim (List·Memᴰ·cases-cons m) [ inl c ↦ rw (c, q) | inr n ↦ next .0 e a n ], λ h. next .1 (λ a m. h a (List·Memᴰ·tail m)))
+    go (some c) q next = (λ e. none-some (sym e), λ h. none-some (sym (h b (List·Memᴰ·head refl)) ∙ q))
+
+pub firstOf-some : {A B : Type 0} (look : A → Option B) (l : List A) {b : B} → firstOf (map look l) ≡ some b → (a : A) × List·Memᴰ a l × (look a ≡ some b)
+firstOf-some look [] e = none-some e
+firstOf-some {A} {B} look (c ∷ l) {b} e = go (look c) refl e (firstOf-some look l)
+  where
+    go : (o : Option B) → look c ≡ o → _≡_ {A = Option B} (elim o [ some d ↦ some d | none ↦ firstOf (map look l) ]) (some b)
+        → (firstOf (map look l) ≡ some b → (a : A) × List·Memᴰ a l × (look a ≡ some b)) → (a : A) × List·Memᴰ a (c ∷ l) × (look a ≡ some b)
+    go none q e next = let (a, m, h) = next e in (a, List·Memᴰ·tail m, h)
+    go (some d) q e next = (c, List·Memᴰ·head refl, q ∙ e)

@@ -48,9 +48,10 @@ SourceLabel n f rise a b x = MaximalOn n f b a x
 SourceLabel n f fall a b x = MaximalOn n f a b x
 SourceLabel n f high a b x = x ≡ b
 
--- A trivial privileged cube: f is 0 on it but for the start point.
-abbrev pub Trivial : ℕ → List ℕ → Privileged → Type 0
-Trivial n f v = (x : ℕ) → x < 2 ^ n → T (has (v .cube) x) → x ≢ v .start → value f x ≡ 0
+-- A trivial privileged cube: f is 1 at its start point and 0 at all its other points.
+pub record Trivial (n : ℕ) (f : List ℕ) (v : Privileged) : Type 0 where
+  pub one : value f (v .start) ≡ 1
+  pub rest : (x : ℕ) → x < 2 ^ n → T (has (v .cube) x) → x ≢ v .start → value f x ≡ 0
 
 -- Theorem 2.10 as the source words it: (c) leaves trivial privileged cubes out.
 pub record SourceCover (n : ℕ) (f ts : List ℕ) (net : Network) : Type 0 where

@@ -1,0 +1,148 @@
+-- Demand 3 of document 01: what the choice gives, when there is a network at all, and what no product of a minimal network can do without.
+use mathlib.Core.Path.{_≡_, refl, sym, ap}
+use mathlib.Core.Logic.{_↔_, _≢_, inl, inr, ∥∥₁-elim}
+use mathlib.Core.HLevel.{⊥-prop}
+use mathlib.Core.Bool.{not, _&&_}
+use mathlib.Core.List.{List, [], _∷_, List·Memᴰ, List·Memᴰ·head, List·Memᴰ·tail, List·Memᴰ·cases-cons, List·Memᴰ·not-nil, List·Mem, List·Nodup, Pairwise·nil, Pairwise·cons}
+use mathlib.Core.Option.{Option, none, some, Option·some-injective}
+use Prim.Native.Nat.{ℕ, zero, suc, _^_, _≤_, _<_}
+use native.Mathlib.Omega.{arith}
+use native.Mathlib.Nat.{not-suc-le-zero, le-of-suc-le-suc}
+use lib.Dec.{T}
+use lib.ListN.{length}
+use Rattle.hazard.specs.Search.{find}
+use Rattle.hazard.specs.Cube.{Cube, has, inside}
+use Rattle.hazard.specs.Transition.{off}
+use Rattle.hazard.specs.Sets.{Required, Privileged, required, privileged}
+use Rattle.hazard.specs.Implicant.{lowestZero, DhfPrime}
+use Rattle.hazard.specs.Growth.{Growth, Legal, Blocked, steps, grow}
+use Rattle.hazard.specs.Cover.{Network, productAt, WellFormed, covered, without, HazardFreeCover}
+use Rattle.hazard.specs.HazardFree.{HazardFree}
+use Rattle.hazard.specs.Refusal.{Refusal, Accepted}
+use Rattle.hazard.specs.Minimal.{blockCheck, blocking, Minimal}
+use Rattle.hazard.proofs.Test.{tests, or-l, or-r, or-e, T-no, sure}
+use Rattle.hazard.proofs.Search.{none-some, none-first, firstOf-map, firstOf-some, Find, missing, hit, find-is}
+use Rattle.hazard.proofs.Sets.{privileged-wide, required-digits}
+use Rattle.hazard.proofs.Network.{covered-by}
+use Rattle.hazard.proofs.Implicant.{Wide, prime-is}
+use Rattle.hazard.proofs.Growth.{Grows, blocked-later, grow-runs, grow-steps}
+use Rattle.hazard.proofs.Existence.{Grown, dhf-cover, cover-exists}
+use Rattle.hazard.proofs.Choice.{Own, Irredundant}
+use Rattle.hazard.proofs.Source.{required-ones}
+use Rattle.hazard.proofs.Theorem.{cover-hazard-free}
+
+-- What is left of a network is part of it.
+pub without-member : (j : ℕ) (net : Network) {p : Cube} → List·Memᴰ p (without j net) → List·Memᴰ p net
+without-member j [] m = m
+without-member zero (q ∷ net) m = List·Memᴰ·tail m
+without-member (suc j) (q ∷ net) m = elim (List·Memᴰ·cases-cons m) [ inl e ↦ List·Memᴰ·head e | inr u ↦ List·Memᴰ·tail (without-member j net u) ]
+
+-- What the network covers and its rest does not lies in the product left out.
+pub without-covered : (j : ℕ) (net : Network) (c : Cube) → T (covered net c) → ¬ T (covered (without j net) c) → T (inside c (productAt net j))
+without-covered j [] c t u = absurd t
+without-covered zero (q ∷ net) c t u = elim (or-e (inside c q) (covered net c) t) [ inl v ↦ v | inr v ↦ absurd (u v) ]
+without-covered (suc j) (q ∷ net) c t u =
+    elim (or-e (inside c q) (covered net c) t) [
+      | inl v ↦ absurd (u (or-l (inside c q) (covered (without j net) c) v))
+      | inr v ↦ without-covered j net c v (λ w. u (or-r (inside c q) (covered (without j net) c) w))
+    ]
+
+-- Products that each have a required cube of their own are all different.
+pub irredundant-nodup : (rs : List Required) (net : Network) → Irredundant rs net → List·Nodup net
+irredundant-nodup rs [] h = Pairwise·nil
+irredundant-nodup rs (p ∷ net) h = Pairwise·cons (λ q m. other q m) (irredundant-nodup rs net (λ j l. tail j (h (suc j) (omega arith))))
+  where
+    tail : (j : ℕ) → Own rs (p ∷ net) (suc j) → Own rs net j
+    tail j o = record { cube = o .cube; listed = o .listed; mine = o .mine; alone = λ t. o .alone (or-r (inside (o .cube .cube) p) (covered (without j net) (o .cube .cube)) t) }
+
+    other : (q : Cube) → List·Mem q net → p ≢ q
+    other q m e = ∥∥₁-elim m ⊥-prop (λ d. let o = h 0 (omega arith) in o .alone (covered-by (o .cube .cube) d (rw e at (o .mine))))
+
+module _ (n : ℕ) (f ts : List ℕ) where
+  -- A growth that ends blocked is refusal 10, and no other.
+  block-none : (r : Required) → (blockCheck n f ts r ≡ none) ↔ Grown (grow n (off f) (privileged n f ts) (r .cube))
+  block-none r = go (grow n (off f) (privileged n f ts) (r .cube))
+    where
+      go : (g : Growth) → (_≡_ {A = Option Refusal} (elim g [
+        | Legal c s ↦ none
+        | Blocked z s ↦ some (record { number = 10; transition = r .transition; point = r .label; steps = s; lowest = z; product = 0 })
+      ]) none) ↔ Grown g
+      go (Legal c s) = (λ e. tt, λ t. refl)
+      go (Blocked z s) = (λ e. none-some (sym e), λ t. absurd t)
+
+  -- No required cube blocks exactly if there is a hazard-free cover.
+  pub cover-iff : (blocking n f ts ≡ none) ↔ ((net : Network) × WellFormed n net × HazardFreeCover n f ts net)
+  cover-iff =
+      let b = firstOf-map (blockCheck n f ts) (required n f ts) in
+      let c = cover-exists n (off f) (required n f ts) (privileged n f ts) (privileged-wide n f ts) (required-digits n f ts) in
+      (λ e. c .0 (λ r m. block-none r .0 (b .0 e r m)), λ h. b .1 (λ r m. block-none r .1 (c .1 h r m)))
+
+  module _ (accepted : Accepted n f ts) where
+    -- No required cube blocks exactly if there is a hazard-free network, of any size.
+    pub exists-iff : (blocking n f ts ≡ none) ↔ ((net : Network) × WellFormed n net × HazardFree n f ts net)
+    exists-iff = (
+      λ e. let (net, w, c) = cover-iff .0 e in (net, w, cover-hazard-free n f ts net accepted w .0 c),
+      λ h. let (net, w, q) = h in cover-iff .1 (net, w, cover-hazard-free n f ts net accepted w .1 q),
+    )
+
+    -- A required cube contains no zero, so one that blocks has taken at least one step; and at most n.
+    pub block-steps : (q : Refusal) → blocking n f ts ≡ some q → (1 ≤ q .steps) × (q .steps ≤ n)
+    block-steps q e =
+        let (r, m, h) = firstOf-some (blockCheck n f ts) (required n f ts) e in
+        let w = required-digits n f ts r m in
+        go r (grow n (off f) vs (r .cube)) (grow-runs n (off f) vs wide w) (grow-steps n (off f) vs wide w) (free r m) h
+      where
+        vs : List Privileged
+        vs = privileged n f ts
+
+        wide : Wide n vs
+        wide = privileged-wide n f ts
+
+        free : (r : Required) → List·Memᴰ r (required n f ts) → lowestZero n (off f) (r .cube) ≡ none
+        free r m = none-first (λ x. has (r .cube) x && off f x) 0 (2 ^ n)
+            (λ x a b t. let (h, o) = simp tests at t in omega (arith, required-ones n f ts accepted r m x (omega arith) h))
+
+        go : (r : Required) (g : Growth) → Grows n (off f) vs (r .cube) 0 g → steps g ≤ n → lowestZero n (off f) (r .cube) ≡ none → _≡_ {A = Option Refusal} (elim g [
+          | Legal c s ↦ none
+          | Blocked z s ↦ some (record { number = 10; transition = r .transition; point = r .label; steps = s; lowest = z; product = 0 })
+        ]) (some q) → (1 ≤ q .steps) × (q .steps ≤ n)
+        go r (Legal c s) u l k h = none-some h
+        go r (Blocked z s) u l k h = let e : s ≡ q .steps = ap (λ (x : Refusal). x .steps) (Option·some-injective _ _ h) in (omega (arith, blocked-later n (off f) vs k u), omega arith)
+
+    -- Dhf-primes that cover every required cube, each with one of its own, meet the whole of demand 3.
+    pub minimal : (net : Network) → ((p : Cube) → List·Memᴰ p net → DhfPrime n (off f) (privileged n f ts) p) → ((r : Required) → List·Memᴰ r (required n f ts) → T (covered net (r .cube)))
+        → Irredundant (required n f ts) net → length net ≤ length (required n f ts) → Minimal n f ts net
+    minimal net primes covers own few =
+        record {
+          primes = primes;
+          cover = cover;
+          hazardFree = cover-hazard-free n f ts net accepted good .0 cover;
+          irredundant = λ j l q. let o = own j l in
+              o .alone (cover-hazard-free n f ts (without j net) accepted (λ p m. good p (without-member j net m)) .1 q .b (o .cube) (o .listed));
+          few = few;
+        }
+      where
+        good : WellFormed n net
+        good p m = primes p m .product
+
+        cover : HazardFreeCover n f ts net
+        cover = dhf-cover n (off f) (required n f ts) (privileged n f ts) (privileged-wide n f ts) net
+            (λ p m. prime-is n (off f) (privileged n f ts) (privileged-wide n f ts) p .0 (primes p m) .dhf) covers
+
+    -- And a product that cannot be dropped has a required cube of its own.
+    pub minimal-own : (net : Network) → Minimal n f ts net → Irredundant (required n f ts) net
+    minimal-own net h j l = go (find (λ r. not (covered (without j net) (r .cube))) (required n f ts)) (find-is (λ r. not (covered (without j net) (r .cube))) (required n f ts))
+      where
+        rest : (p : Cube) → List·Memᴰ p (without j net) → List·Memᴰ p net
+        rest p m = without-member j net m
+
+        go : (o : Option Required) → Find (λ r. not (covered (without j net) (r .cube))) (required n f ts) o → Own (required n f ts) net j
+        go none (missing k) =
+            absurd (h .irredundant j l (cover-hazard-free n f ts (without j net) accepted (λ p m. h .primes p (rest p m) .product) .0 (record {
+              a = λ p m. h .cover .a p (rest p m);
+              b = λ r m. sure (covered (without j net) (r .cube)) (k r m);
+              c = λ p m. h .cover .c p (rest p m);
+            })))
+        go (some r) (hit m t) =
+            let u = simp T-no at t in
+            record { cube = r; listed = m; mine = without-covered j net (r .cube) (h .cover .b r m) u; alone = u }

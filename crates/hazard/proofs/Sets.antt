@@ -1,0 +1,81 @@
+-- The entries of the lists of required and of privileged cubes.
+use mathlib.Core.Path.{_≡_, refl, sym, ap, subst, subst⁻¹}
+use mathlib.Core.Logic.{inl, inr}
+use mathlib.Core.Bool.{Bool, true, false}
+use mathlib.Core.List.{List, _∷_, List·Memᴰ, List·Memᴰ·head, List·Memᴰ·tail, List·Memᴰ·not-nil, List·Memᴰ·cases-cons, List·Memᴰ·append-cases, Memᴰ·append-left, Memᴰ·append-right, Memᴰ·map, Memᴰ·of-map}
+use Prim.Native.Nat.{ℕ, zero, suc, _+_, _≤_, _<_}
+use native.Mathlib.Omega.{arith}
+use native.Mathlib.Decide.{ℕ-discrete}
+use lib.Dec.{T}
+use Rattle.hazard.specs.Cube.{span}
+use Rattle.hazard.specs.Transition.{start, end, count}
+use Rattle.hazard.specs.Sets.{Required, Privileged, labels, dynamic, kindAt, startAt, requiredOf, requiredFrom, required, privilegedFrom, privileged}
+use Rattle.hazard.proofs.Test.{so, so-not}
+use Rattle.hazard.proofs.Cube.{Digits, span-digits}
+use Rattle.hazard.proofs.Implicant.{Wide}
+
+module _ (n : ℕ) (f ts : List ℕ) where
+  -- The labels of transition k, and its required cube with the label x.
+  abbrev pub labelsAt : ℕ → List ℕ
+  labelsAt k = labels n f (kindAt f ts k) (start ts k) (end ts k)
+
+  abbrev pub requiredAt : ℕ → ℕ → Required
+  requiredAt k x = record { transition = k; label = x; cube = span n (startAt f ts k) x }
+
+  -- The privileged cube of transition k, if it is dynamic.
+  abbrev pub privilegedAt : ℕ → Privileged
+  privilegedAt k = record { transition = k; cube = span n (start ts k) (end ts k); start = startAt f ts k }
+
+  requiredFrom-i : (from m k x : ℕ) → from ≤ k → k < from + m → List·Memᴰ x (labelsAt k) → List·Memᴰ (requiredAt k x) (requiredFrom n f ts from m)
+  requiredFrom-i from zero k x l h t = absurd (omega arith)
+  requiredFrom-i from (suc m) k x l h t =
+      elim (ℕ-discrete from k) [
+        | yes e ↦ Memᴰ·append-left (requiredFrom n f ts (suc from) m) (subst⁻¹ (λ (z : ℕ). List·Memᴰ (requiredAt k x) (requiredOf n f ts z)) e (Memᴰ·map (requiredAt k) t))
+        | no ne ↦ Memᴰ·append-right (requiredOf n f ts from) (requiredFrom-i (suc from) m k x (omega arith) (omega arith) t)
+      ]
+
+  requiredFrom-e : (from m : ℕ) {r : Required} → List·Memᴰ r (requiredFrom n f ts from m)
+      → (k : ℕ) × (x : ℕ) × (k < from + m) × List·Memᴰ x (labelsAt k) × (requiredAt k x ≡ r)
+  requiredFrom-e from zero t = absurd (List·Memᴰ·not-nil t)
+  requiredFrom-e from (suc m) t =
+      elim (List·Memᴰ·append-cases (requiredOf n f ts from) t) [
+        | inl u ↦ let w = Memᴰ·of-map (requiredAt from) (labelsAt from) u in (from, w .0, omega arith, w .1, w .2)
+        | inr u ↦ let w = requiredFrom-e (suc from) m u in (w .0, w .1, omega (arith, w .2), w .3, w .4)
+      ]
+
+  pub required-i : (k x : ℕ) → k < count ts → List·Memᴰ x (labelsAt k) → List·Memᴰ (requiredAt k x) (required n f ts)
+  required-i k x l t = requiredFrom-i 0 (count ts) k x (omega arith) (omega arith) t
+
+  pub required-e : {r : Required} → List·Memᴰ r (required n f ts) → (k : ℕ) × (x : ℕ) × (k < count ts) × List·Memᴰ x (labelsAt k) × (requiredAt k x ≡ r)
+  required-e t = let w = requiredFrom-e 0 (count ts) t in (w .0, w .1, omega (arith, w .2), w .3, w .4)
+
+  pub required-digits : (r : Required) → List·Memᴰ r (required n f ts) → Digits n (r .cube)
+  required-digits r t = let w = required-e t in subst (λ (q : Required). Digits n (q .cube)) (w .4) (span-digits n (startAt f ts (w .0)) (w .1))
+
+  privilegedFrom-i : (from m k : ℕ) → from ≤ k → k < from + m → T (dynamic (kindAt f ts k)) → List·Memᴰ (privilegedAt k) (privilegedFrom n f ts from m)
+  privilegedFrom-i from zero k l h t = absurd (omega arith)
+  privilegedFrom-i from (suc m) k l h t = go (λ ne. privilegedFrom-i (suc from) m k (omega arith) (omega arith) t) (dynamic (kindAt f ts from)) refl
+    where
+      go : (¬ (from ≡ k) → List·Memᴰ (privilegedAt k) (privilegedFrom n f ts (suc from) m)) → (b : Bool) → dynamic (kindAt f ts from) ≡ b
+          → List·Memᴰ (privilegedAt k) (elim b [ true ↦ privilegedAt from ∷ privilegedFrom n f ts (suc from) m | false ↦ privilegedFrom n f ts (suc from) m ])
+      go below true b = elim (ℕ-discrete from k) [ yes e ↦ List·Memᴰ·head (ap privilegedAt (sym e)) | no ne ↦ List·Memᴰ·tail (below ne) ]
+      go below false b = below (λ q. so-not b (subst⁻¹ (λ (z : ℕ). T (dynamic (kindAt f ts z))) q t))
+
+  privilegedFrom-e : (from m : ℕ) {v : Privileged} → List·Memᴰ v (privilegedFrom n f ts from m) → (k : ℕ) × (k < from + m) × T (dynamic (kindAt f ts k)) × (privilegedAt k ≡ v)
+  privilegedFrom-e from zero t = absurd (List·Memᴰ·not-nil t)
+  privilegedFrom-e from (suc m) {v} t = go (λ u. let w = privilegedFrom-e (suc from) m u in (w .0, omega (arith, w .1), w .2, w .3)) (dynamic (kindAt f ts from)) refl t
+    where
+      go : (List·Memᴰ v (privilegedFrom n f ts (suc from) m) → (k : ℕ) × (k < from + suc m) × T (dynamic (kindAt f ts k)) × (privilegedAt k ≡ v)) → (b : Bool) → dynamic (kindAt f ts from) ≡ b
+          → List·Memᴰ v (elim b [ true ↦ privilegedAt from ∷ privilegedFrom n f ts (suc from) m | false ↦ privilegedFrom n f ts (suc from) m ])
+          → (k : ℕ) × (k < from + suc m) × T (dynamic (kindAt f ts k)) × (privilegedAt k ≡ v)
+      go below true b u = elim (List·Memᴰ·cases-cons u) [ inl e ↦ (from, omega arith, so b, sym e) | inr w ↦ below w ]
+      go below false b u = below u
+
+  pub privileged-i : (k : ℕ) → k < count ts → T (dynamic (kindAt f ts k)) → List·Memᴰ (privilegedAt k) (privileged n f ts)
+  privileged-i k l t = privilegedFrom-i 0 (count ts) k (omega arith) (omega arith) t
+
+  pub privileged-e : {v : Privileged} → List·Memᴰ v (privileged n f ts) → (k : ℕ) × (k < count ts) × T (dynamic (kindAt f ts k)) × (privilegedAt k ≡ v)
+  privileged-e t = let w = privilegedFrom-e 0 (count ts) t in (w .0, omega (arith, w .1), w .2, w .3)
+
+  pub privileged-wide : Wide n (privileged n f ts)
+  privileged-wide v t = let w = privileged-e t in subst (λ (u : Privileged). Digits n (u .cube)) (w .3) (span-digits n (start ts (w .0)) (end ts (w .0)))

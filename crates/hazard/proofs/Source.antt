@@ -1,0 +1,199 @@
+-- Our sets are the source's: the labels, the rules of the kinds, and condition (c).
+use mathlib.Core.Path.{_≡_, sym, _∙_, subst⁻¹}
+use mathlib.Core.Logic.{_≢_, _↔_}
+use mathlib.Core.Bool.{Bool, _&&_}
+use mathlib.Core.List.{List, List·Memᴰ, List·Memᴰ·head, List·Memᴰ·not-nil, List·Memᴰ·eq-of-singleton, Memᴰ·cast}
+use mathlib.Core.Option.{none}
+use Prim.Native.Nat.{ℕ, _-_, _^_, _≤_, _<_}
+use native.Mathlib.Omega.{arith}
+use native.Mathlib.Decide.{ℕ-discrete}
+use lib.Dec.{T, eqb}
+use Rattle.hazard.specs.Search.{those}
+use Rattle.hazard.specs.Cube.{Cube, bit, flip, has, span, inside}
+use Rattle.hazard.specs.Transition.{value, start, end, count, Kind, low, rise, fall, high, kind, further, breaks, brokenAt}
+use Rattle.hazard.specs.Sets.{Required, Privileged, last, labels, startPoint, kindAt, required, privileged}
+use Rattle.hazard.specs.Implicant.{illegal}
+use Rattle.hazard.specs.Cover.{Network, WellFormed, HazardFreeCover}
+use Rattle.hazard.specs.Refusal.{Accepted}
+use Rattle.hazard.specs.Source.{StaticHazard, DynamicHazard, OneOn, MaximalOn, SourceLabel, Trivial, SourceCover}
+use Rattle.hazard.proofs.Test.{tests, T-and, T-no, eqb-of}
+use Rattle.hazard.proofs.Search.{first-none, none-first, those-e, those-i}
+use Rattle.hazard.proofs.Cube.{digits→, →has, meets→, span-digits, span-left, span-right}
+use Rattle.hazard.proofs.Point.{In, in-e, in-i, span-swap, ends-e, ends-i, between, flip-same, flip-other, flip-lt}
+use Rattle.hazard.proofs.Sets.{requiredAt, required-i, required-e, privileged-wide}
+use Rattle.hazard.proofs.Rules.{EndValues, end-values, RulesAt, rules-at}
+use Rattle.hazard.proofs.Monotone.{Moves, move-in, move-rest, move-past, further-e, further-i, turns-e, Defined, Steady, rise-fall, kept-on}
+
+-- A fall from s to e: no 0 has a 1 one move further.
+module _ (n : ℕ) (f : List ℕ) (s e : ℕ) (defined : Defined n f s e) (steady : Steady n f s e 0) where
+  -- Before a 1 there are only 1s: [s,x] is a subcube of [s,e] on which f is 1.
+  one-on : (x : ℕ) → x < 2 ^ n → T (has (span n s e) x) → value f x ≡ 1 → OneOn n f s e x
+  one-on x l t v = record { point = l; within = inner; ones = ones }
+    where
+      inner : T (inside (span n s x) (span n s e))
+      inner = ends-i n s x (span-digits n s e) (→has (span-left n s e)) t
+
+      -- If y comes before x, then x comes after y.
+      after : (y : ℕ) → In n s x y → In n y e x
+      after y h i b c = elim (ℕ-discrete (bit s i) (bit x i)) [
+        | yes d ↦ sym (h i b d) ∙ d
+        | no d ↦ let g : bit s i ≢ bit e i = λ g. d (in-e n s e x t i b g) in omega arith
+      ]
+
+      ones : (y : ℕ) → y < 2 ^ n → T (has (span n s x) y) → value f y ≡ 1
+      ones y m u =
+          let w = between n s x y (span-digits n s e) (→has (span-left n s e)) t (in-e n s x y u) in
+          let d = defined y m w in
+          let ne : value f y ≢ 0 = λ z. omega (arith, kept-on n f s e 0 (omega arith) defined steady y x m l w (in-i n y e x (after y (in-e n s x y u))) z) in
+          omega arith
+
+  -- A 1 with no 1 one move further is the end of a maximal subcube, and the other way round.
+  last-maximal : (x : ℕ) → x < 2 ^ n → T (last n f s e x) → MaximalOn n f s e x
+  last-maximal x l t =
+      record {
+        oneOn = one-on x l (r .0) (r .1 .0);
+        maximal = λ y o h. ends-i n s y (span-digits n s x) (→has (span-left n s x)) (in-i n s x y (λ i b c. elim (ℕ-discrete (bit s i) (bit y i)) [
+          | yes d ↦ d
+          | no d ↦ absurd (r .1 .1 (wider y o (in-e n s y x (ends-e n s x (span n s y) h .1)) i b c d))
+        ]));
+      }
+    where
+      r : T (has (span n s e) x) × ((value f x ≡ 1) × (¬ T (further n f s e x 1)))
+      r = simp tests at t
+
+      -- A subcube [s,y] that is 1 and frees one more input has a 1 one move further.
+      wider : (y : ℕ) → OneOn n f s e y → In n s y x → (i : ℕ) → i < n → bit s i ≡ bit x i → bit s i ≢ bit y i → T (further n f s e x 1)
+      wider y o h i b c d =
+          let m : Moves n s e x i = record { input = b; differs = λ g. d (in-e n s e y (ends-e n s y (span n s e) (o .within) .1) i b g); early = sym c } in
+          further-i n f s e x i 1 m (o .ones (flip x i) (flip-lt n x i l b)
+          (in-i n s y (flip x i) (λ j q g. elim (ℕ-discrete i j) [ yes k ↦ absurd (d (rw k g)) | no k ↦ h j q g ∙ sym (flip-other x i j k) ])))
+
+  maximal-last : (x : ℕ) → MaximalOn n f s e x → T (last n f s e x)
+  maximal-last x h = simp tests (t, (h .oneOn .ones x (h .oneOn .point) (→has (span-right n s x)), λ u. stuck (further-e n f s e x 1 u)))
+    where
+      t : T (has (span n s e) x)
+      t = ends-e n s x (span n s e) (h .oneOn .within) .1
+
+      -- A 1 one move further would end a larger subcube that is 1.
+      stuck : ¬ ((i : ℕ) × Moves n s e x i × (value f (flip x i) ≡ 1))
+      stuck (i, m, v) =
+          let z = flip x i in
+          let o = one-on z (flip-lt n x i (h .oneOn .point) (m .input)) (in-i n s e z (move-in m (in-e n s e x t))) v in
+          let k = h .maximal z o (ends-i n s x (span-digits n s z) (→has (span-left n s z)) (in-i n s z x (move-past m))) in
+          let r = in-e n s x z (ends-e n s z (span n s x) k .1) i (m .input) (sym (m .early)) in
+          omega (arith, flip-same x i, m .early)
+
+  -- Lemma 2.8.
+  pub fall-labels : (x : ℕ) → List·Memᴰ x (those (last n f s e) 0 (2 ^ n)) ↔ MaximalOn n f s e x
+  fall-labels x = (
+    λ m. let r = those-e (last n f s e) 0 (2 ^ n) m in last-maximal x (omega (arith, r .1)) (r .2),
+    λ h. those-i (last n f s e) 0 (2 ^ n) x (omega arith) (omega (arith, h .oneOn .point)) (maximal-last x h),
+  )
+
+-- Lemmas 2.7 to 2.9: the labels are the source's, all of them and no others.
+pub labels-source : (n : ℕ) (f : List ℕ) (a b : ℕ) (k : Kind) → RulesAt n f a b k → (x : ℕ) → List·Memᴰ x (labels n f k a b) ↔ SourceLabel n f k a b x
+labels-source n f a b low h x = (λ m. List·Memᴰ·not-nil m, λ z. absurd z)
+labels-source n f a b rise h x = fall-labels n f b a (λ y l t. h .defined y l (span-swap n b a y t)) (rise-fall n f a b .0 (h .kept)) x
+labels-source n f a b fall h x = fall-labels n f a b (h .defined) (h .kept) x
+labels-source n f a b high h x = (λ m. List·Memᴰ·eq-of-singleton m, λ e. List·Memᴰ·head e)
+
+-- So for each transition of an accepted problem.
+pub labels-accepted : (n : ℕ) (f ts : List ℕ) → Accepted n f ts → (k : ℕ) → k < count ts → (x : ℕ)
+    → List·Memᴰ x (labels n f (kindAt f ts k) (start ts k) (end ts k)) ↔ SourceLabel n f (kindAt f ts k) (start ts k) (end ts k) x
+labels-accepted n f ts accepted k l = labels-source n f (start ts k) (end ts k) (kindAt f ts k) (rules-at n f ts accepted k l)
+
+-- The required cubes are the source's, all of them and no others.
+pub required-source : (n : ℕ) (f ts : List ℕ) → Accepted n f ts → (r : Required)
+    → List·Memᴰ r (required n f ts) ↔ ((k : ℕ) × (x : ℕ) × (k < count ts) × SourceLabel n f (kindAt f ts k) (start ts k) (end ts k) x × (requiredAt n f ts k x ≡ r))
+required-source n f ts accepted r = (
+  λ m. let (k, x, l, u, e) = required-e n f ts m in (k, x, l, labels-accepted n f ts accepted k l x .0 u, e),
+  λ h. let (k, x, l, u, e) = h in Memᴰ·cast (sym e) (required-i n f ts k x l (labels-accepted n f ts accepted k l x .1 u)),
+)
+
+-- f is 1 on every required cube.
+label-ones : (n : ℕ) (f : List ℕ) (a b : ℕ) (k : Kind) → RulesAt n f a b k → (x : ℕ) → SourceLabel n f k a b x → (y : ℕ) → y < 2 ^ n → T (has (span n (startPoint k a b) x) y) → value f y ≡ 1
+label-ones n f a b low h x s y l t = absurd s
+label-ones n f a b rise h x s y l t = s .oneOn .ones y l t
+label-ones n f a b fall h x s y l t = s .oneOn .ones y l t
+label-ones n f a b high h x s y l t =
+    let u = rw s at t in
+    let d = h .defined y l u in
+    let ne : value f y ≢ 0 = λ z. h .kept y l u (eqb-of z) in omega arith
+
+pub required-ones : (n : ℕ) (f ts : List ℕ) → Accepted n f ts → (r : Required) → List·Memᴰ r (required n f ts) → (y : ℕ) → y < 2 ^ n → T (has (r .cube) y) → value f y ≡ 1
+required-ones n f ts accepted r m y l t =
+    let (k, x, h, s, e) = required-source n f ts accepted r .0 m in
+    label-ones n f (start ts k) (end ts k) (kindAt f ts k) (rules-at n f ts accepted k h) x s y l (subst⁻¹ (λ (q : Required). T (has (q .cube) y)) e t)
+
+-- f has no function hazard for the transition from a to b.
+abbrev FunctionHazardFree : ℕ → List ℕ → ℕ → ℕ → Type 0
+FunctionHazardFree n f a b = (¬ StaticHazard n f a b) × (¬ DynamicHazard n f a b)
+
+-- The rule of the kind k holds on [a,b].
+abbrev Kept : ℕ → List ℕ → ℕ → ℕ → Kind → Type 0
+Kept n f a b k = (x : ℕ) → x < 2 ^ n → T (has (span n a b) x) → ¬ T (breaks n f k a b x)
+
+module _ (n : ℕ) (f : List ℕ) (a b v : ℕ) (small : v ≤ 1) (defined : Defined n f a b) (ends : value f b ≡ v) where
+  -- Both ends have the value v: the other value is a static function hazard.
+  static-free : value f a ≡ v → ((x : ℕ) → x < 2 ^ n → T (has (span n a b) x) → ¬ T (eqb (value f x) (1 - v))) ↔ FunctionHazardFree n f a b
+  static-free starts = (
+    λ k. (
+      λ h. let d = defined (h .b) (h .point) (h .between) in k (h .b) (h .point) (h .between) (simp tests (omega (arith, h .differs))),
+      λ h. h .differs (starts ∙ sym ends),
+    ),
+    λ h x l t u. h .0 (record { b = x; same = starts ∙ sym ends; point = l; between = t; differs = λ e. let o = simp tests at u in omega arith }),
+  )
+
+  -- The transition ends with the value v: a move from it to the other value is a dynamic function hazard.
+  dynamic-free : value f a ≡ 1 - v → Steady n f a b v ↔ FunctionHazardFree n f a b
+  dynamic-free starts = (
+    λ k. (
+      λ h. omega (arith, h .same),
+      λ h. let r = kept-on n f a b v small defined k (h .b) (h .c) (h .b-point) (h .c-point) (h .b-between) (h .c-between) (h .b-ends ∙ ends) in omega (arith, h .c-starts),
+    ),
+    λ h x l t u. let (e, i, m, g) = turns-e n f a b v x u in h .1 (record {
+      b = x;
+      c = flip x i;
+      differs = λ d. omega arith;
+      b-point = l;
+      c-point = flip-lt n x i l (m .input);
+      b-between = t;
+      c-between = in-i n x b (flip x i) (move-rest m);
+      b-ends = e ∙ sym ends;
+      c-starts = starts ∙ sym g;
+    }),
+  )
+
+-- The rule of each kind.
+kept-free : (n : ℕ) (f : List ℕ) (a b : ℕ) → Defined n f a b → (k : Kind) → EndValues k (value f a) (value f b) → Kept n f a b k ↔ FunctionHazardFree n f a b
+kept-free n f a b defined low e = static-free n f a b 0 (omega arith) defined (e .1) (e .0)
+kept-free n f a b defined rise e = dynamic-free n f a b 1 (omega arith) defined (e .1) (e .0)
+kept-free n f a b defined fall e = dynamic-free n f a b 0 (omega arith) defined (e .1) (e .0)
+kept-free n f a b defined high e = static-free n f a b 1 (omega arith) defined (e .1) (e .0)
+
+-- Definitions 2.4 and 2.5: the rule of the kind holds exactly where f has no function hazard.
+pub rule-source : (n : ℕ) (f : List ℕ) (a b : ℕ) → a < 2 ^ n → b < 2 ^ n → Defined n f a b → (brokenAt n f a b ≡ none) ↔ ((¬ StaticHazard n f a b) × (¬ DynamicHazard n f a b))
+rule-source n f a b l m defined = (
+  λ e. r .0 (λ x h t u. first-none test 0 (2 ^ n) e x (omega arith) (omega arith) (simp T-and (t, u))),
+  λ h. none-first test 0 (2 ^ n) (λ x p q t. let u = simp T-and at t in r .1 h x (omega arith) (u .0) (u .1)),
+)
+  where
+    test : ℕ → Bool
+    test x = has (span n a b) x && breaks n f (kind f a b) a b x
+
+    r : Kept n f a b (kind f a b) ↔ FunctionHazardFree n f a b
+    r = kept-free n f a b defined (kind f a b) (end-values (value f a) (value f b) (defined a l (→has (span-left n a b))) (defined b m (→has (span-right n a b))))
+
+-- Theorem 2.10: given (a), leaving the trivial privileged cubes out of (c) changes nothing.
+pub trivial-source : (n : ℕ) (f ts : List ℕ) (net : Network) → WellFormed n net → SourceCover n f ts net ↔ HazardFreeCover n f ts net
+trivial-source n f ts net formed = (
+  λ h. record { a = h .a; b = h .b; c = λ p m v u t. h .c p m v u (λ trivial. meet h p m v u trivial t) t },
+  λ h. record { a = h .a; b = h .b; c = λ p m v u t. h .c p m v u },
+)
+  where
+    -- The product and the trivial cube share a point that is not the start point, so a 0.
+    meet : SourceCover n f ts net → (p : Cube) → List·Memᴰ p net → (v : Privileged) → List·Memᴰ v (privileged n f ts) → Trivial n f v → ¬ T (illegal p v)
+    meet h p m v u trivial t =
+        let (i, j) = simp (T-and, T-no) at t in
+        let (x, l, y, z) = meets→ (digits→ n p (formed p m)) (privileged-wide n f ts v u) i in
+        h .a p m x l (eqb-of (trivial .rest x l (→has z) (λ e. j (→has (rw e at y))))) (→has y)

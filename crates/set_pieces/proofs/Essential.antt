@@ -1,0 +1,148 @@
+-- A network that passes the test of specs/Essential is minimal, and every minimal network has its products.
+use mathlib.Core.Path.{_≡_, refl, sym, ap, subst, subst⁻¹}
+use mathlib.Core.Logic.{_↔_, _⊎_, inl, inr, ∥∥₁-map}
+use mathlib.Core.Bool.{Bool, not, _&&_}
+use mathlib.Core.List.{List, [], _∷_, _++_, map, Perm, perm-ext-iff-of-nodup, List·Mem, List·Memᴰ, List·Memᴰ·head, List·Memᴰ·tail, List·Memᴰ·cases-cons, Memᴰ·append-left, Memᴰ·append-right, Memᴰ·map, Memᴰ·cast}
+use mathlib.Core.Option.{Option, none, some}
+use Prim.Native.Nat.{ℕ, zero, suc, _+_, _≤_, _<_}
+use native.Mathlib.Omega.{arith}
+use native.Mathlib.Decide.{ℕ-discrete}
+use lib.Dec.{T, leb, leb→le}
+use lib.ListN.{length}
+use Rattle.hazard.specs.Search.{found, first, find}
+use Rattle.hazard.specs.Cube.{Cube, isProduct, inside}
+use Rattle.hazard.specs.Transition.{off}
+use Rattle.hazard.specs.Sets.{Required, required, privileged}
+use Rattle.hazard.specs.Implicant.{dhfImplicant, DhfPrime}
+use Rattle.hazard.specs.Cover.{Network, productAt, covered, without}
+use Rattle.hazard.specs.Refusal.{Accepted}
+use Rattle.hazard.specs.Minimal.{Minimal}
+use Rattle.hazard.proofs.Test.{T-and, T-no, sure}
+use Rattle.hazard.proofs.Search.{not-found, Find, missing, hit, find-is, find-none, first-none}
+use Rattle.hazard.proofs.Cube.{Digits, nil, cons, digits→, inside→, →inside, inside-trans, inside-antisym}
+use Rattle.hazard.proofs.Network.{place-of, entry-at, covered-e, covered-by}
+use Rattle.hazard.proofs.Choice.{Own, Irredundant}
+use Rattle.hazard.proofs.Minimal.{irredundant-nodup, minimal, minimal-own}
+use Rattle.set_pieces.specs.Essential.{allProducts, dhf, escapes, greatest, owned, essential}
+
+-- Every product of n inputs is in the list.
+in-all : {n : ℕ} {q : Cube} → Digits n q → List·Memᴰ q (allProducts n)
+in-all nil = List·Memᴰ·head refl
+in-all (cons {n = n} {d = d} {ds = ds} h w) = go d h (in-all w)
+  where
+    l : List Cube
+    l = allProducts n
+
+    go : (d : ℕ) → d ≤ 2 → List·Memᴰ ds (allProducts n) → List·Memᴰ (d ∷ ds) (allProducts (suc n))
+    go zero k m = Memᴰ·append-left _ (Memᴰ·map (λ c. 0 ∷ c) m)
+    go (suc zero) k m = Memᴰ·append-right (map (λ c. 0 ∷ c) (allProducts n)) (Memᴰ·append-left _ (Memᴰ·map (λ c. 1 ∷ c) m))
+    go (suc (suc zero)) k m = Memᴰ·append-right (map (λ c. 0 ∷ c) (allProducts n)) (Memᴰ·append-right (map (λ c. 1 ∷ c) (allProducts n)) (Memᴰ·map (λ c. 2 ∷ c) m))
+    go (suc (suc (suc d))) k m = absurd (omega arith)
+
+-- What a search that finds, or finds nothing, says.
+found-e : {A : Type 0} (test : A → Bool) (l : List A) → T (found (find test l)) → (a : A) × List·Memᴰ a l × T (test a)
+found-e {A} test l = go (find test l) (find-is test l)
+  where
+    go : (o : Option A) → Find test l o → T (found o) → (a : A) × List·Memᴰ a l × T (test a)
+    go none v t = absurd t
+    go (some a) (hit m u) t = (a, m, u)
+
+lacking : {A : Type 0} (test : A → Bool) (l : List A) → ¬ T (found (find test l)) → (a : A) → List·Memᴰ a l → ¬ T (test a)
+lacking test l t = find-none test l .0 (not-found t)
+
+-- An entry is product j, or one of the others.
+entry-cases : (net : Network) (j : ℕ) {p : Cube} → List·Memᴰ p net → (p ≡ productAt net j) ⊎ List·Memᴰ p (without j net)
+entry-cases [] j m = inr m
+entry-cases (q ∷ net) zero m = List·Memᴰ·cases-cons m
+entry-cases (q ∷ net) (suc j) m = elim (List·Memᴰ·cases-cons m) [ inl e ↦ inr (List·Memᴰ·head e) | inr u ↦ elim (entry-cases net j u) [ inl e ↦ inl e | inr v ↦ inr (List·Memᴰ·tail v) ] ]
+
+module _ (n : ℕ) (f ts : List ℕ) (accepted : Accepted n f ts) (net : Network) (t : T (essential n f ts net)) where
+  abbrev rs : List Required
+  rs = required n f ts
+
+  abbrev Prime : Cube → Type 0
+  Prime p = DhfPrime n (off f) (privileged n f ts) p
+
+  -- The parts of the test.
+  parts : (T (leb (length net) (length rs)) × (¬ T (found (find (λ p. not (dhf n f ts p)) net))))
+      × ((¬ T (found (find (λ (r : Required). not (found (find (greatest n f ts (r .cube)) net))) rs))) × (¬ T (found (first (λ j. not (found (find (owned n f ts net j) rs))) 0 (length net)))))
+  parts = simp (T-and, T-no) at t
+
+  dhf-at : (p : Cube) → List·Memᴰ p net → T (isProduct n p) × T (dhfImplicant n (off f) (privileged n f ts) p)
+  dhf-at p m = T-and (isProduct n p) (dhfImplicant n (off f) (privileged n f ts) p) .0 (sure (dhf n f ts p) (lacking (λ q. not (dhf n f ts q)) net (parts .0 .1) p m))
+
+  -- The greatest dhf-implicant around a required cube.
+  pub record Greatest (r : Required) (p : Cube) : Type 0 where
+    pub member : List·Memᴰ p net
+    pub around : T (inside (r .cube) p)
+    pub above : (q : Cube) → T (isProduct n q) → T (dhfImplicant n (off f) (privileged n f ts) q) → T (inside (r .cube) q) → T (inside q p)
+
+  top : (r : Required) → List·Memᴰ r rs → (p : Cube) × Greatest r p
+  top r m =
+      let s = sure (found (find (greatest n f ts (r .cube)) net)) (lacking (λ (q : Required). not (found (find (greatest n f ts (q .cube)) net))) rs (parts .1 .0) r m) in
+      let (p, u, g) = found-e (greatest n f ts (r .cube)) net s in
+      let h = simp (T-and, T-no) at g in
+      (p, record {
+        member = u;
+        around = h .0;
+        above = λ q w d i. sure (inside q p) (λ v. lacking (escapes n f ts (r .cube) p) (allProducts n) (h .1) q (in-all (digits→ n q w)) (T-and (inside (r .cube) q) (dhf n f ts q && not (inside q p)) .1 (i, T-and (dhf n f ts q) (not (inside q p)) .1 (T-and (isProduct n q) (dhfImplicant n (off f) (privileged n f ts) q) .1 (w, d), v))));
+      })
+
+  own : Irredundant rs net
+  own j l =
+      let s = sure (found (find (owned n f ts net j) rs)) (first-none (λ i. not (found (find (owned n f ts net i) rs))) 0 (length net) (not-found (parts .1 .1)) j (omega arith) (omega arith)) in
+      let (r, m, u) = found-e (owned n f ts net j) rs s in
+      let h = simp (T-and, T-no) at u in
+      record { cube = r; listed = m; mine = h .0; alone = h .1 }
+
+  -- A product's own required cube has that product for its greatest.
+  own-top : (j : ℕ) (l : j < length net) → Greatest (own j l .cube) (productAt net j)
+  own-top j l =
+      let o = own j l in
+      let (p, g) = top (o .cube) (o .listed) in
+      elim (entry-cases net j (g .member)) [ inl e ↦ subst (Greatest (o .cube)) e g | inr u ↦ absurd (o .alone (covered-by (o .cube .cube) u (g .around))) ]
+
+  prime-at : (j : ℕ) → j < length net → Prime (productAt net j)
+  prime-at j l =
+      let d = dhf-at (productAt net j) (entry-at net j l) in
+      let o = own j l in
+      record {
+        product = d .0;
+        dhf = d .1;
+        maximal = λ q w u i. own-top j l .above q w u (→inside (inside-trans (inside→ (o .cube .cube) (productAt net j) (o .mine)) (inside→ (productAt net j) q i)));
+      }
+
+  pub essential-minimal : Minimal n f ts net
+  essential-minimal =
+      minimal n f ts accepted net (λ p m. let (j, l, e) = place-of m in subst Prime e (prime-at j l))
+      (λ r m. let (p, g) = top r m in covered-by (r .cube) (g .member) (g .around))
+      own (leb→le (length net) (length rs) (parts .0 .0))
+
+  -- A dhf-prime around a required cube is its greatest dhf-implicant.
+  prime-top : (r : Required) (p q : Cube) → Greatest r p → Prime q → T (inside (r .cube) q) → q ≡ p
+  prime-top r p q g h i =
+      let up = g .above q (h .product) (h .dhf) i in
+      let d = dhf-at p (g .member) in
+      inside-antisym (inside→ q p up) (inside→ p q (h .maximal p (d .0) (d .1) up))
+
+  pub essential-only : (other : Network) → Minimal n f ts other → Perm other net
+  essential-only other h =
+      perm-ext-iff-of-nodup (irredundant-nodup rs other mine) (irredundant-nodup rs net own) .1 (λ c. (λ m. ∥∥₁-map m (to c), λ m. ∥∥₁-map m (from c)))
+    where
+      mine : Irredundant rs other
+      mine = minimal-own n f ts accepted other h
+
+      to : (c : Cube) → List·Memᴰ c other → List·Memᴰ c net
+      to c m =
+          let (j, l, e) = place-of m in
+          let o = mine j l in
+          let (p, g) = top (o .cube) (o .listed) in
+          Memᴰ·cast (prime-top (o .cube) p c g (h .primes c m) (rw e at (o .mine))) (g .member)
+
+      from : (c : Cube) → List·Memᴰ c net → List·Memᴰ c other
+      from c m =
+          let (j, l, e) = place-of m in
+          let o = own j l in
+          let (i, k, u) = covered-e other (o .cube .cube) (h .cover .b (o .cube) (o .listed)) in
+          let v = entry-at other i k in
+          Memᴰ·cast (sym (prime-top (o .cube) c (productAt other i) (rw e at (own-top j l)) (h .primes (productAt other i) v) u)) v

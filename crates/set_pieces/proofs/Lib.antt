@@ -1,0 +1,2 @@
+pub mod Essential
+pub mod Theorem

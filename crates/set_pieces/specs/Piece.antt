@@ -1,0 +1,51 @@
+-- A set piece: a problem, what is asked of it and what the answer is; and what it says.
+use mathlib.Core.Path.{_≡_}
+use mathlib.Core.Bool.{Bool}
+use mathlib.Core.List.{List, [], Perm}
+use mathlib.Core.Option.{none, some}
+use Prim.Native.Nat.{ℕ, _*_}
+use lib.ListN.{length}
+use Rattle.hazard.specs.Search.{firstOf}
+use Rattle.hazard.specs.Transition.{start, end}
+use Rattle.hazard.specs.Sets.{required}
+use Rattle.hazard.specs.Cover.{Network}
+use Rattle.hazard.specs.Run.{Wire, Run, outputs}
+use Rattle.hazard.specs.Refusal.{Refusal}
+use Rattle.hazard.specs.Verdict.{Verdict, verdict, products}
+use Rattle.hazard.specs.Minimal.{minimiserChecks, Minimal}
+
+pub data Item : Type 0 where
+  -- The minimiser's network has these products, in some order.
+  minimised : Network → Item
+  -- The minimiser refuses.
+  declined : Refusal → Item
+  -- The verifier's verdict on the bytes of a network.
+  verified : List ℕ → Verdict → Item
+  -- The output list of a run of the network in a transition.
+  moved : List ℕ → ℕ → List Wire → List Bool → Item
+
+pub record Piece : Type 0 where
+  pub inputs : ℕ
+  pub table : List ℕ
+  pub transitions : List ℕ
+  pub item : Item
+
+module _ (n : ℕ) (f ts : List ℕ) where
+  -- The minimiser's checks, with a buffer that is just long enough.
+  abbrev pub checked : ℕ
+  checked = n * length (required n f ts)
+
+  -- Exactly these products: they are a minimal network, and every minimal network has them.
+  pub record Exactly (net : Network) : Type 0 where
+    pub taken : firstOf (minimiserChecks n f ts checked) ≡ none
+    pub meets : Minimal n f ts net
+    pub only : (other : Network) → Minimal n f ts other → Perm other net
+
+  abbrev pub Says : Item → Type 0
+  Says (minimised net) = Exactly net
+  Says (declined r) = firstOf (minimiserChecks n f ts checked) ≡ some r
+  Says (verified bytes v) = verdict n f ts bytes ≡ v
+  Says (moved bytes k ws bs) = Run (start ts k) (end ts k) (products n bytes) ws × (outputs (start ts k) (end ts k) (products n bytes) [] ws ≡ bs)
+
+abbrev pub Holds : Piece → Type 0
+Holds p = Says (p .inputs) (p .table) (p .transitions) (p .item)

@@ -1,0 +1,1 @@
+// The set pieces stand in specs/, their theorem in proofs/.
