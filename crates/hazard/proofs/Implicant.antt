@@ -78,7 +78,7 @@ module _ (n : ℕ) (off : ℕ → Bool) (vs : List Privileged) (wide : Wide n vs
         | yes y ↦ y
         | no y ↦ absurd (h v m (→illegal {v = v} w (wide v m) (record { shared = x; mine = i; its = j; lacks = y })))
       ])
-      go (some v) (hit m t) = illegally m (illegal→ {v = v} w (wide v m) t)
+      go (some v) (hit m t _) = illegally m (illegal→ {v = v} w (wide v m) t)
 
   -- The test and its meaning.
   pub dhf-is : {c : Cube} → Digits n c → T (dhfImplicant n off vs c) ↔ Dhf n off vs c

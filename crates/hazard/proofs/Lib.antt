@@ -25,4 +25,8 @@ pub mod Moment
 pub mod Label
 pub mod Transition
 pub mod Theorem
+pub mod Verdict
 pub mod Minimal
+-- The set pieces.
+pub mod Essential
+pub mod Pieces

@@ -143,6 +143,6 @@ module _ (n : ℕ) (f ts : List ℕ) where
               b = λ r m. sure (covered (without j net) (r .cube)) (k r m);
               c = λ p m. h .cover .c p (rest p m);
             })))
-        go (some r) (hit m t) =
+        go (some r) (hit m t _) =
             let u = simp T-no at t in
             record { cube = r; listed = m; mine = without-covered j net (r .cube) (h .cover .b r m) u; alone = u }

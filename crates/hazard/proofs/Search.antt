@@ -2,7 +2,7 @@
 use mathlib.Core.Path.{_≡_, refl, sym, _∙_, subst, subst⁻¹}
 use mathlib.Core.Logic.{_↔_, inl, inr}
 use mathlib.Core.Bool.{Bool, true, false}
-use mathlib.Core.List.{List, [], _∷_, map, List·Memᴰ, List·Memᴰ·head, List·Memᴰ·tail, List·Memᴰ·not-nil, List·Memᴰ·cases-cons}
+use mathlib.Core.List.{List, [], _∷_, _++_, map, List·Memᴰ, List·Memᴰ·head, List·Memᴰ·tail, List·Memᴰ·not-nil, List·Memᴰ·cases-cons}
 use mathlib.Core.Option.{Option, none, some}
 use Prim.Native.Nat.{ℕ, zero, suc, _+_, _≤_, _<_}
 use native.Mathlib.Omega.{arith}
@@ -88,40 +88,58 @@ those-i test from (suc size) i l h t = go (λ ne. those-i test (suc from) size i
     go below true b = elim (ℕ-discrete from i) [ yes e ↦ List·Memᴰ·head (sym e) | no ne ↦ List·Memᴰ·tail (below ne) ]
     go below false b = below (λ q. so-not b (subst⁻¹ (λ (k : ℕ). T (test k)) q t))
 
+-- The entries before a place in a list fail the test.
+abbrev pub Earlier : {A : Type 0} (test : A → Bool) {a : A} {l : List A} → List·Memᴰ a l → Type 0
+Earlier test (List·Memᴰ·head e) = Unit {0}
+Earlier test (List·Memᴰ·tail {x = x} m) = (¬ T (test x)) × Earlier test m
+
 -- What the first entry that passes a test is.
 pub data Find {A : Type 0} (test : A → Bool) (l : List A) : Option A → Type 0 where
   missing : ((a : A) → List·Memᴰ a l → ¬ T (test a)) → Find test l none
-  hit : {a : A} → List·Memᴰ a l → T (test a) → Find test l (some a)
+  hit : {a : A} (m : List·Memᴰ a l) → T (test a) → Earlier test m → Find test l (some a)
 
 pub find-is : {A : Type 0} (test : A → Bool) (l : List A) → Find test l (find test l)
 find-is test [] = missing (λ a m t. List·Memᴰ·not-nil m)
 find-is {A} test (b ∷ l) = go (test b) refl (find test l) (find-is test l)
   where
     go : (c : Bool) → test b ≡ c → (r : Option A) → Find test l r → Find test (b ∷ l) (elim c [ true ↦ some b | false ↦ r ])
-    go true e r v = hit (List·Memᴰ·head refl) (so e)
+    go true e r v = hit (List·Memᴰ·head refl) (so e) tt
     go false e none (missing h) = missing (λ a m t. elim (List·Memᴰ·cases-cons m) [ inl q ↦ so-not e (subst (λ (x : A). T (test x)) q t) | inr n ↦ h a n t ])
-    go false e (some a) (hit m t) = hit (List·Memᴰ·tail m) t
+    go false e (some a) (hit m t h) = hit (List·Memᴰ·tail m) t (so-not e, h)
 
 pub find-none : {A : Type 0} (test : A → Bool) (l : List A) → (find test l ≡ none) ↔ ((a : A) → List·Memᴰ a l → ¬ T (test a))
 find-none {A} test l = go (find test l) (find-is test l)
   where
     go : (o : Option A) → Find test l o → (o ≡ none) ↔ ((a : A) → List·Memᴰ a l → ¬ T (test a))
     go none (missing h) = (λ e. h, λ k. refl)
-    go (some a) (hit m t) = (λ e. none-some (sym e), λ k. absurd (k a m t))
+    go (some a) (hit m t h) = (λ e. none-some (sym e), λ k. absurd (k a m t))
 
--- A search of searches finds nothing exactly where none of them does.
-pub place-none : (look : ℕ → Option ℕ) (from size : ℕ) → (firstPlace look from size ≡ none) ↔ ((k : ℕ) → from ≤ k → k < from + size → look k ≡ none)
-place-none look from zero = (λ e k l h. absurd (omega arith), λ h. refl)
-place-none look from (suc size) = go (look from) refl (place-none look (suc from) size)
+-- What the lowest number at which a look finds something is.
+pub data Place (look : ℕ → Option ℕ) (from size : ℕ) : Option (ℕ × ℕ) → Type 0 where
+  empty : ((k : ℕ) → from ≤ k → k < from + size → look k ≡ none) → Place look from size none
+  placed : {k x : ℕ} → from ≤ k → k < from + size → look k ≡ some x → ((j : ℕ) → from ≤ j → j < k → look j ≡ none) → Place look from size (some (k, x))
+
+pub place-is : (look : ℕ → Option ℕ) (from size : ℕ) → Place look from size (firstPlace look from size)
+place-is look from zero = empty (λ k l h. absurd (omega arith))
+place-is look from (suc size) = go (look from) refl (firstPlace look (suc from) size) (place-is look (suc from) size)
   where
-    go : (o : Option ℕ) → look from ≡ o → (firstPlace look (suc from) size ≡ none) ↔ ((k : ℕ) → suc from ≤ k → k < suc from + size → look k ≡ none)
-        → (_≡_ {A = Option (ℕ × ℕ)} (elim o [ some x ↦ some (from, x) | none ↦ firstPlace look (suc from) size ]) none) ↔ ((k : ℕ) → from ≤ k → k < from + suc size → look k ≡ none)
-    go none q next = (
-      λ e k l h. elim (ℕ-discrete k from) [ yes c ↦ rw (c, q) | no c ↦ next .0 e k (omega arith) (omega arith) ],
-      λ h. next .1 (λ k l m. h k (omega arith) (omega arith)),
-    )
-    go (some x) q next = (λ e. none-some (sym e), λ h. none-some (sym (h from (omega arith) (omega arith)) ∙ q))
+    past : look from ≡ none → (k : ℕ) → from ≤ k → (suc from ≤ k → look k ≡ none) → look k ≡ none
+    past q k l h = elim (ℕ-discrete k from) [ yes c ↦ rw (c, q) | no c ↦ h (omega arith) ]
 
+    go : (o : Option ℕ) → look from ≡ o → (r : Option (ℕ × ℕ)) → Place look (suc from) size r → Place look from (suc size) (elim o [ some x ↦ some (from, x) | none ↦ r ])
+    go (some x) q r v = placed {k = from} (omega arith) (omega arith) q (λ j l h. absurd (omega arith))
+    go none q none (empty h) = empty (λ k l m. past q k l (λ i. h k i (omega arith)))
+    go none q (some p) (placed {k = k} l m e h) = placed {k = k} (omega arith) (omega arith) e (λ j i c. past q j i (λ u. h j u c))
+
+-- It finds nothing exactly where no look does.
+pub place-none : (look : ℕ → Option ℕ) (from size : ℕ) → (firstPlace look from size ≡ none) ↔ ((k : ℕ) → from ≤ k → k < from + size → look k ≡ none)
+place-none look from size = go (firstPlace look from size) (place-is look from size)
+  where
+    go : (o : Option (ℕ × ℕ)) → Place look from size o → (o ≡ none) ↔ ((k : ℕ) → from ≤ k → k < from + size → look k ≡ none)
+    go none (empty h) = (λ e. h, λ k. refl)
+    go (some p) (placed l m e h) = (λ q. none-some (sym q), λ k. none-some (sym (k _ l m) ∙ e))
+
+-- A list of searches finds nothing exactly where none of them does.
 pub firstOf-none : {A : Type 0} (l : List (Option A)) → (firstOf l ≡ none) ↔ ((i : ℕ) → getD l i none ≡ none)
 firstOf-none [] = (λ e i. refl, λ h. refl)
 firstOf-none {A} (o ∷ l) = go o (firstOf-none l)
@@ -131,6 +149,13 @@ firstOf-none {A} (o ∷ l) = go o (firstOf-none l)
     go none next = (λ e. elim [ zero ↦ refl | suc i ↦ next .0 e i ], λ h. next .1 (λ i. h (suc i)))
     go (some a) next = (λ e. none-some (sym e), λ h. none-some (sym (h 0)))
 
+-- Two lists of searches find nothing exactly if each finds nothing.
+pub firstOf-append : {A : Type 0} (l m : List (Option A)) → (firstOf (l ++ m) ≡ none) ↔ ((firstOf l ≡ none) × (firstOf m ≡ none))
+firstOf-append [] m = (λ e. (refl, e), λ e. e .1)
+firstOf-append (none ∷ l) m = firstOf-append l m
+firstOf-append (some a ∷ l) m = (λ e. none-some (sym e), λ e. none-some (sym (e .0)))
+
+-- Over a list of things to look at.
 pub firstOf-map : {A B : Type 0} (look : A → Option B) (l : List A) → (firstOf (map look l) ≡ none) ↔ ((a : A) → List·Memᴰ a l → look a ≡ none)
 firstOf-map look [] = (λ e a m. absurd (List·Memᴰ·not-nil m), λ h. refl)
 firstOf-map {A} {B} look (b ∷ l) = go (look b) refl (firstOf-map look l)

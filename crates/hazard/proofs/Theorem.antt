@@ -8,7 +8,7 @@ use lib.Dec.{T, eqb→eq}
 use lib.ListN.{length}
 use Rattle.hazard.specs.Cube.{Cube, has, span}
 use Rattle.hazard.specs.Transition.{value, start, end, count, off}
-use Rattle.hazard.specs.Sets.{Required, Privileged, dynamic, kindAt, startAt, privileged}
+use Rattle.hazard.specs.Sets.{Required, Privileged, kindAt, startAt, privileged}
 use Rattle.hazard.specs.Implicant.{illegal}
 use Rattle.hazard.specs.Cover.{Network, productAt, WellFormed, gives, covered, HazardFreeCover}
 use Rattle.hazard.specs.HazardFree.{HazardFree}
@@ -73,5 +73,6 @@ module _ (n : ℕ) (f ts : List ℕ) (net : Network) (accepted : Accepted n f ts
           cover-at n f net (start ts k) (end ts k) good (h .zeros) (kindAt f ts k) (rules-at n f ts accepted k l)
           (record { ones = h .ones k l; runs = h .runs k l })
 
+  -- Theorem 2.10 of the source.
   pub cover-hazard-free : HazardFreeCover n f ts net ↔ HazardFree n f ts net
   cover-hazard-free = (cover→hazard-free, hazard-free→cover)

@@ -13,7 +13,7 @@ use Rattle.hazard.specs.Cube.{bit, has, span}
 use Rattle.hazard.specs.Transition.{value, Kind, low, rise, fall, high}
 use Rattle.hazard.specs.Sets.{last, labels, startPoint, dynamic}
 use Rattle.hazard.specs.Cover.{Network, productAt, gives}
-use Rattle.hazard.specs.Run.{Wire, Run, outputs, Constant, Turns, Allowed}
+use Rattle.hazard.specs.Run.{Wire, Constant, Turns, Allowed}
 use Rattle.hazard.proofs.Test.{T-and, is, isnt, so, so-not, or-l, known, eqb-of, eqb-self, cond-yes, cond-no}
 use Rattle.hazard.proofs.Search.{those-e, those-i}
 use Rattle.hazard.proofs.Cube.{→has, span-left, span-right}
@@ -30,39 +30,14 @@ use Rattle.hazard.proofs.Label.{label-of, label-one}
 abbrev pub Anchored : ℕ → ℕ → ℕ → Network → ℕ → Type 0
 Anchored n a b net s = (k : ℕ) → k < length net → (x : ℕ) → T (has (productAt net k) x) → T (has (span n a b) x) → T (has (productAt net k) s)
 
-module _ (n a b : ℕ) (net : Network) (good : Products n net) where
-  -- A product that is on has a point of [A,B].
-  on-point : (m : List Wire) (k : ℕ) → k < length net → On a b net m k → (x : ℕ) × (x < 2 ^ n) × T (has (span n a b) x) × T (has (productAt net k) x)
-  on-point m k l h = let r = view n a b m k (good k l) in (r .0, r .1, r .2, r .3 .1 h)
-
-  -- The output is 0 throughout, if the network gives 0 on [A,B].
-  all-off : ((x : ℕ) → x < 2 ^ n → T (has (span n a b) x) → gives net x ≡ false) → (m : List Wire) → out a b net m ≡ false
-  all-off h m =
-      isnt (out a b net m) (λ t.
-        let r = out-e a b m net t in
-        let y = on-point m (r .0) (r .1) (r .2) in
-        so-not (h (y .0) (y .1) (y .2)) (gives-i net (y .0) (r .0) (r .1) (y .3)))
-
-  -- The output is 1 throughout, if one product contains both ends.
+-- One product that contains both ends.
+module _ (a b : ℕ) (net : Network) where
+  -- It keeps the output at 1.
   all-on : Joint net a b → (m : List Wire) → out a b net m ≡ true
   all-on (k, l, p, q) m =
       is (out-i a b m net k l (λ i ne. elim (sees-either a b m k i) [ inl e ↦ has-e (productAt net k) a p i ne ∙ sym e | inr e ↦ has-e (productAt net k) b q i ne ∙ sym e ]))
 
-  -- The output stays 0, if every product that is on contains the start; and it stays 1, if every product that is on contains the end.
-  stays-off : Anchored n a b net a → (m : List Wire) (w : Wire) → out a b net m ≡ false → out a b net (w ∷ m) ≡ false
-  stays-off c m w e =
-      isnt (out a b net (w ∷ m)) (λ t.
-        let r = out-e a b (w ∷ m) net t in
-        let y = on-point (w ∷ m) (r .0) (r .1) (r .2) in
-        so-not e (out-i a b m net (r .0) (r .1) (was-on a b m w (r .0) (productAt net (r .0)) (c (r .0) (r .1) (y .0) (y .3) (y .2)) (r .2))))
-
-  remains-on : Anchored n a b net b → (m : List Wire) (w : Wire) → out a b net m ≡ true → out a b net (w ∷ m) ≡ true
-  remains-on c m w e =
-      let r = out-e a b m net (so e) in
-      let y = on-point m (r .0) (r .1) (r .2) in
-      is (out-i a b (w ∷ m) net (r .0) (r .1) (stays-on a b m w (r .0) (productAt net (r .0)) (c (r .0) (r .1) (y .0) (y .3) (y .2)) (r .2)))
-
-  -- 1 to 1: first move the wires whose literals have a's value. The product that is on then contains both ends.
+  -- A network that keeps the output at 1 has one: first move the wires whose literals have a's value. The product that is on then contains both ends.
   high-joint : Runs a b net (Constant true) → Joint net a b
   high-joint runs = (k, s .1, has-i (productAt net k) a (λ i ne. both i ne .0), has-i (productAt net k) b (λ i ne. both i ne .1))
     where
@@ -88,6 +63,33 @@ module _ (n a b : ℕ) (net : Network) (good : Products n net) where
           go (inl t) = (eqb→eq (dig (productAt net k) i) (bit a i) t, e ∙ cond-yes (q (wire k i)) (bit b i) (bit a i) t)
           go (inr t) = absurd (t (eqb-of (e ∙ cond-no (q (wire k i)) (bit b i) (bit a i) t)))
 
+module _ (n a b : ℕ) (net : Network) (good : Products n net) where
+  -- A product that is on has a point of [A,B].
+  on-point : (m : List Wire) (k : ℕ) → k < length net → On a b net m k → (x : ℕ) × (x < 2 ^ n) × T (has (span n a b) x) × T (has (productAt net k) x)
+  on-point m k l h = let r = view n a b m k (good k l) in (r .0, r .1, r .2, r .3 .1 h)
+
+  -- The output is 0 throughout, if the network gives 0 on [A,B].
+  all-off : ((x : ℕ) → x < 2 ^ n → T (has (span n a b) x) → gives net x ≡ false) → (m : List Wire) → out a b net m ≡ false
+  all-off h m =
+      isnt (out a b net m) (λ t.
+      let r = out-e a b m net t in
+      let y = on-point m (r .0) (r .1) (r .2) in
+      so-not (h (y .0) (y .1) (y .2)) (gives-i net (y .0) (r .0) (r .1) (y .3)))
+
+  -- The output stays 0, if every product that is on contains the start; and it stays 1, if every product that is on contains the end.
+  stays-off : Anchored n a b net a → (m : List Wire) (w : Wire) → out a b net m ≡ false → out a b net (w ∷ m) ≡ false
+  stays-off c m w e =
+      isnt (out a b net (w ∷ m)) (λ t.
+      let r = out-e a b (w ∷ m) net t in
+      let y = on-point (w ∷ m) (r .0) (r .1) (r .2) in
+      so-not e (out-i a b m net (r .0) (r .1) (was-on a b m w (r .0) (productAt net (r .0)) (c (r .0) (r .1) (y .0) (y .3) (y .2)) (r .2))))
+
+  remains-on : Anchored n a b net b → (m : List Wire) (w : Wire) → out a b net m ≡ true → out a b net (w ∷ m) ≡ true
+  remains-on c m w e =
+      let r = out-e a b m net (so e) in
+      let y = on-point m (r .0) (r .1) (r .2) in
+      is (out-i a b (w ∷ m) net (r .0) (r .1) (stays-on a b m w (r .0) (productAt net (r .0)) (c (r .0) (r .1) (y .0) (y .3) (y .2)) (r .2)))
+
   -- A product j that has a point x of [A,B].
   module _ (j : ℕ) (l : j < length net) (x : ℕ) (at-x : T (has (productAt net j) x)) (between-ends : T (has (span n a b) x)) where
     -- Its literals have a's or b's value.
@@ -103,7 +105,7 @@ module _ (n a b : ℕ) (net : Network) (good : Products n net) where
     on-here : (q : Wire → Bool) → ((i : ℕ) → q (wire j i) ≡ eqb (dig (productAt net j) i) (bit b i)) → (m : List Wire) → Moved a b net q m → out a b net m ≡ true
     on-here q e m h =
         is (out-i a b m net j l (λ i ne.
-          go i ne (known (eqb (dig (productAt net j) i) (bit b i))) ∙ sym (moved-sees a b net h j i l ne ∙ ap (λ (c : Bool). cond c (bit b i) (bit a i)) (e i))))
+        go i ne (known (eqb (dig (productAt net j) i) (bit b i))) ∙ sym (moved-sees a b net h j i l ne ∙ ap (λ (c : Bool). cond c (bit b i) (bit a i)) (e i))))
       where
         go : (i : ℕ) → dig (productAt net j) i ≢ 2 → T (eqb (dig (productAt net j) i) (bit b i)) ⊎ (¬ T (eqb (dig (productAt net j) i) (bit b i)))
             → dig (productAt net j) i ≡ cond (eqb (dig (productAt net j) i) (bit b i)) (bit b i) (bit a i)
@@ -121,7 +123,7 @@ module _ (n a b : ℕ) (net : Network) (good : Products n net) where
             elim (ℕ-discrete (r .0) j) [
               | yes c ↦ lacks (has-i (productAt net j) s (λ i ne. subst (On a b net m) c (r .2) i ne ∙ moved-sees a b net h j i l ne ∙ u i))
               | no c ↦ so-not zero· (gives-i net e (r .0) (r .1) (has-i (productAt net (r .0)) e (λ i ne.
-                r .2 i ne ∙ moved-sees a b net h (r .0) i (r .1) ne ∙ v (r .0) i c)))
+                  r .2 i ne ∙ moved-sees a b net h (r .0) i (r .1) ne ∙ v (r .0) i c)))
             ]
 
     mine : Wire → Bool
@@ -165,6 +167,15 @@ module _ (n : ℕ) (f : List ℕ) (net : Network) (a b : ℕ) where
     pub ones : Ones
     pub runs : Runs a b net (Allowed k)
 
+  -- A single product contains S and the label, for each label, if the network gives 1 at the 1s and every product that has a point of [A,B] contains S.
+  labelled : (s e : ℕ) → ((x : ℕ) → T (has (span n s e) x) → T (has (span n a b) x)) → Ones → Anchored n a b net s
+      → (x : ℕ) → List·Memᴰ x (those (last n f s e) 0 (2 ^ n)) → Joint net s x
+  labelled s e to one anchored x m =
+      let t = those-e (last n f s e) 0 (2 ^ n) m in
+      let u = label-one n f s e x (t .2) in
+      let g = gives-e net x (so (one x (omega (arith, t .1)) (to x (u .0)) (u .1))) in
+      (g .0, g .1, anchored (g .0) (g .1) x (g .2) (to x (u .0)), g .2)
+
   module _ (good : Products n net) (zeros : (x : ℕ) → x < 2 ^ n → value f x ≡ 0 → gives net x ≡ false) where
     -- The network gives 1 at the 1s of [S,E], if a single product contains S and the label, for each label.
     reach : (s e : ℕ) → ((x : ℕ) → List·Memᴰ x (those (last n f s e) 0 (2 ^ n)) → Joint net s x)
@@ -199,17 +210,8 @@ module _ (n : ℕ) (f : List ℕ) (net : Network) (a b : ℕ) where
         let j = c .cubes b (List·Memᴰ·head refl) in
         record {
           ones = λ x l t v. is (gives-i net x (j .0) (j .1) (between n a b x (good (j .0) (j .1)) (j .2) (j .3) (in-e n a b x t)));
-          runs = λ r e. constant a b net true (all-on n a b net good j) [] r;
+          runs = λ r e. constant a b net true (all-on a b net j) [] r;
         }
-
-    -- A single product contains S and the label, for each label, if the network gives 1 at the 1s and every product that has a point of [A,B] contains S.
-    labelled : (s e : ℕ) → ((x : ℕ) → T (has (span n s e) x) → T (has (span n a b) x)) → Ones → Anchored n a b net s
-        → (x : ℕ) → List·Memᴰ x (those (last n f s e) 0 (2 ^ n)) → Joint net s x
-    labelled s e to one anchored x m =
-        let t = those-e (last n f s e) 0 (2 ^ n) m in
-        let u = label-one n f s e x (t .2) in
-        let g = gives-e net x (so (one x (omega (arith, t .1)) (to x (u .0)) (u .1))) in
-        (g .0, g .1, anchored (g .0) (g .1) x (g .2) (to x (u .0)), g .2)
 
     pub cover-at : (k : Kind) → RulesAt n f a b k → HazardFreeAt k → CoverAt k
     cover-at low h q = record { cubes = λ x m. absurd (List·Memᴰ·not-nil m); legal = λ t. absurd t }
@@ -220,7 +222,7 @@ module _ (n : ℕ) (f : List ℕ) (net : Network) (a b : ℕ) where
         let c : Anchored n a b net a = λ j l x t u. fall-start n a b net good j l x t u (q .runs) (zeros b (h .end-lt) (h .ends .1)) in
         record { cubes = labelled a b (λ x t. t) (q .ones) c; legal = λ t. c }
     cover-at high h q =
-        let j = high-joint n a b net good (q .runs) in
+        let j = high-joint a b net (q .runs) in
         record {
           cubes = λ x m. (j .0, j .1, j .2, subst⁻¹ (λ (y : ℕ). T (has (productAt net (j .0)) y)) (List·Memᴰ·eq-of-singleton m) (j .3));
           legal = λ t. absurd t;

@@ -1,6 +1,6 @@
 -- What the products see, in one transition from a to b, once the wires of m have moved.
 use mathlib.Core.Path.{_≡_, refl, sym, ap, _∙_, subst}
-use mathlib.Core.Logic.{_≢_, _↔_, _⊎_, inl, inr}
+use mathlib.Core.Logic.{_↔_, _⊎_, inl, inr}
 use mathlib.Core.List.{List, [], _∷_}
 use Prim.Native.Nat.{ℕ, zero, suc, _+_, _^_, _<_}
 use native.Mathlib.Nat.{not-suc-le-zero, le-of-suc-le-suc, zero-add}
@@ -12,7 +12,7 @@ use Rattle.hazard.specs.Cover.{Network, productAt}
 use Rattle.hazard.specs.Run.{Wire, sameWire, seen, sees, on, output}
 use Rattle.hazard.proofs.Test.{tests, or-l, or-r, or-e, known, cond-yes, cond-no}
 use Rattle.hazard.proofs.Cube.{Digits}
-use Rattle.hazard.proofs.Point.{dig, bit-lt, dig-short, Agrees, has-e, has-i, In, in-i, point, point-lt, bit-point}
+use Rattle.hazard.proofs.Point.{bit-lt, dig-short, Agrees, has-e, has-i, In, in-i, point, point-lt, bit-point}
 use Rattle.hazard.proofs.Wire.{wire}
 
 module _ (a b : ℕ) where

@@ -17,6 +17,7 @@ use Rattle.hazard.proofs.Point.{dig}
 abbrev pub wire : ℕ → ℕ → Wire
 wire j i = record { product = j; input = i }
 
+-- Wires are the same if the test says so.
 same-self : (w : Wire) → T (sameWire w w)
 same-self w = simp tests (refl, refl)
 
@@ -97,6 +98,7 @@ times-parted q r w =
       | inr t ↦ omega (arith, times-left q r w t, times-selected (λ x. not (q x)) r w (not-T (q w) t))
     ]
 
+-- A wire that is taken stands in front; what stands behind stays.
 seen-head : (c : Bool) (v : Wire) (vs : List Wire) → T c → T (seen (elim c [ true ↦ v ∷ vs | false ↦ vs ]) v)
 seen-head true v vs t = or-l (sameWire v v) (seen vs v) (same-self v)
 seen-head false v vs t = absurd t
@@ -153,6 +155,7 @@ module _ (a b : ℕ) where
           ]
       go false e t below = next (below t)
 
+  -- No wire stands twice.
   of-once : (j i : ℕ) (p : Cube) (w : Wire) → times (wiresOf a b j i p) w ≤ 1
   of-once j i [] w = omega arith
   of-once j i (d ∷ ds) w = go (taken i d) (of-once j (suc i) ds w)
@@ -214,7 +217,7 @@ module _ (a b : ℕ) where
 
   pub times-no-literal : (net : Network) (w : Wire) → ¬ Literal net w → times (wires a b 0 net) w ≡ 0
   times-no-literal net w h = times-zero (wires a b 0 net) w (λ t.
-    let r = wires-e 0 net w t in
-    let k : r .0 ≡ w .product = omega (arith, r .2 .mine) in
-    let i : r .2 .place ≡ w .input = omega (arith, r .2 .here) in
-    h (record { place = omega (arith, r .1); literal = λ z. r .2 .literal (rw (k, i) z); moving = r .2 .moving }))
+      let r = wires-e 0 net w t in
+      let k : r .0 ≡ w .product = omega (arith, r .2 .mine) in
+      let i : r .2 .place ≡ w .input = omega (arith, r .2 .here) in
+      h (record { place = omega (arith, r .1); literal = λ z. r .2 .literal (rw (k, i) z); moving = r .2 .moving }))

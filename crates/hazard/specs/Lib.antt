@@ -13,3 +13,5 @@ pub mod Refusal
 pub mod Verdict
 pub mod Minimal
 pub mod Source
+pub mod Piece
+pub mod Pieces

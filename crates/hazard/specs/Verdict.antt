@@ -8,7 +8,7 @@ use lib.ListN.{length, take, drop}
 use Rattle.hazard.specs.Search.{first, firstPlace, find, firstOf}
 use Rattle.hazard.specs.Cube.{isProduct}
 use Rattle.hazard.specs.Transition.{off}
-use Rattle.hazard.specs.Sets.{Privileged, required, privileged}
+use Rattle.hazard.specs.Sets.{Required, Privileged, required, privileged}
 use Rattle.hazard.specs.Implicant.{illegal, lowestZero}
 use Rattle.hazard.specs.Cover.{Network, productAt, covered}
 use Rattle.hazard.specs.Refusal.{Refusal, refuseIf, inputChecks}
@@ -45,23 +45,27 @@ pub data Verdict : Type 0 where
   -- (b) fails: the transition, and the label
   uncovered : ℕ → ℕ → Verdict
 
-module _ (n : ℕ) (f ts : List ℕ) (net : Network) where
-  -- (a) by product and then point.
-  abbrev pub faultA : Option (ℕ × ℕ)
-  faultA = firstPlace (λ j. lowestZero n (off f) (productAt net j)) 0 (length net)
+-- The first failure of (a), by product and then point.
+abbrev pub faultA : ℕ → List ℕ → Network → Option (ℕ × ℕ)
+faultA n f net = firstPlace (λ j. lowestZero n (off f) (productAt net j)) 0 (length net)
 
-  -- (c) by product and then transition.
+module _ (n : ℕ) (f ts : List ℕ) (net : Network) where
+  -- The first failure of (c), by product and then transition.
   abbrev pub faultC : Option (ℕ × ℕ)
   faultC = firstPlace (λ j. Option·map (λ (v : Privileged). v .transition) (find (illegal (productAt net j)) (privileged n f ts))) 0 (length net)
 
-  -- The first fault, trying (a), then (c), then (b) in the order of required cubes.
+  -- The first failure of (b), in the order of required cubes.
+  abbrev pub faultB : Option Required
+  faultB = find (λ r. not (covered net (r .cube))) (required n f ts)
+
+  -- The first fault, trying (a), then (c), then (b).
   abbrev pub fault : Verdict
   fault =
-      elim faultA [
+      elim (faultA n f net) [
         | some p ↦ holdsZero (p .0) (p .1)
         | none ↦ elim faultC [
           | some p ↦ intersects (p .0) (p .1)
-          | none ↦ elim (find (λ r. not (covered net (r .cube))) (required n f ts)) [ some r ↦ uncovered (r .transition) (r .label) | none ↦ passed ]
+          | none ↦ elim faultB [ some r ↦ uncovered (r .transition) (r .label) | none ↦ passed ]
         ]
       ]
 

@@ -4,14 +4,13 @@ use mathlib.Core.List.{List, [], _∷_}
 use mathlib.Core.Option.{none}
 use Prim.Native.Nat.{ℕ}
 use lib.Dec.{T}
 use Rattle.hazard.specs.Search.{firstOf}
 use Rattle.hazard.specs.Cover.{Network}
 use Rattle.hazard.specs.Refusal.{Accepted}
 use Rattle.hazard.specs.Minimal.{minimiserChecks}
-use Rattle.set_pieces.specs.Piece.{Piece, checked, Exactly, Holds}
-use Rattle.set_pieces.specs.Table.{pieces}
-use Rattle.set_pieces.specs.Essential.{essential}
-use Rattle.set_pieces.proofs.Essential.{essential-minimal, essential-only}
+use Rattle.hazard.specs.Piece.{Piece, checked, Exactly, Holds}
+use Rattle.hazard.specs.Pieces.{pieces}
+use Rattle.hazard.proofs.Essential.{essential, essential-minimal, essential-only}
 
 -- Every entry of a list passes.
 abbrev pub Every : {A : Type 0} → (A → Type 0) → List A → Type 0

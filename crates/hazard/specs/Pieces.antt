@@ -2,9 +2,9 @@
 use mathlib.Core.Bool.{true, false}
 use mathlib.Core.List.{List, [], _∷_}
 use Prim.Native.Nat.{ℕ}
 use Rattle.hazard.specs.Refusal.{refusal}
 use Rattle.hazard.specs.Verdict.{passed, holdsZero, intersects, uncovered}
-use Rattle.set_pieces.specs.Piece.{Item, minimised, declined, verified, moved, Piece}
+use Rattle.hazard.specs.Piece.{Item, minimised, declined, verified, moved, Piece}
 
 -- A problem with one item.
 abbrev pub piece : ℕ → List ℕ → List ℕ → Item → Piece

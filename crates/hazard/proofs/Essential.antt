@@ -1,4 +1,4 @@
--- A network that passes the test of specs/Essential is minimal, and every minimal network has its products.
+-- A computed test that finds the only minimal network: each required cube has a greatest dhf-implicant around it, and those are the products.
 use mathlib.Core.Path.{_≡_, refl, sym, ap, subst, subst⁻¹}
 use mathlib.Core.Logic.{_↔_, _⊎_, inl, inr, ∥∥₁-map}
 use mathlib.Core.Bool.{Bool, not, _&&_}
@@ -9,21 +9,48 @@ use native.Mathlib.Omega.{arith}
 use native.Mathlib.Decide.{ℕ-discrete}
 use lib.Dec.{T, leb, leb→le}
 use lib.ListN.{length}
 use Rattle.hazard.specs.Search.{found, first, find}
 use Rattle.hazard.specs.Cube.{Cube, isProduct, inside}
 use Rattle.hazard.specs.Transition.{off}
 use Rattle.hazard.specs.Sets.{Required, required, privileged}
 use Rattle.hazard.specs.Implicant.{dhfImplicant, DhfPrime}
 use Rattle.hazard.specs.Cover.{Network, productAt, covered, without}
 use Rattle.hazard.specs.Refusal.{Accepted}
 use Rattle.hazard.specs.Minimal.{Minimal}
 use Rattle.hazard.proofs.Test.{T-and, T-no, sure}
 use Rattle.hazard.proofs.Search.{not-found, Find, missing, hit, find-is, find-none, first-none}
 use Rattle.hazard.proofs.Cube.{Digits, nil, cons, digits→, inside→, →inside, inside-trans, inside-antisym}
 use Rattle.hazard.proofs.Network.{place-of, entry-at, covered-e, covered-by}
 use Rattle.hazard.proofs.Choice.{Own, Irredundant}
 use Rattle.hazard.proofs.Minimal.{irredundant-nodup, minimal, minimal-own}
-use Rattle.set_pieces.specs.Essential.{allProducts, dhf, escapes, greatest, owned, essential}
+
+-- All the products of n inputs.
+abbrev allProducts : ℕ → List Cube
+allProducts zero = [] ∷ []
+allProducts (suc n) = let l = allProducts n in map (λ c. 0 ∷ c) l ++ (map (λ c. 1 ∷ c) l ++ map (λ c. 2 ∷ c) l)
+
+module _ (n : ℕ) (f ts : List ℕ) where
+  abbrev dhf : Cube → Bool
+  dhf p = isProduct n p && dhfImplicant n (off f) (privileged n f ts) p
+
+  -- A dhf-implicant around r that does not lie inside p.
+  abbrev escapes : Cube → Cube → Cube → Bool
+  escapes r p q = inside r q && (dhf q && not (inside q p))
+
+  -- p is the greatest dhf-implicant around r.
+  abbrev greatest : Cube → Cube → Bool
+  greatest r p = inside r p && not (found (find (escapes r p) (allProducts n)))
+
+  -- Required cube r lies in product j of the network only.
+  abbrev owned : Network → ℕ → Required → Bool
+  owned net j r = inside (r .cube) (productAt net j) && not (covered (without j net) (r .cube))
+
+  -- Every product is a dhf-implicant; every required cube has its greatest one in the network; every product has a required cube of its own.
+  abbrev pub essential : Network → Bool
+  essential net =
+      (leb (length net) (length (required n f ts)) && not (found (find (λ p. not (dhf p)) net)))
+      && (not (found (find (λ r. not (found (find (greatest (r .cube)) net))) (required n f ts)))
+      && not (found (first (λ j. not (found (find (owned net j) (required n f ts)))) 0 (length net))))
 
 -- Every product of n inputs is in the list.
 in-all : {n : ℕ} {q : Cube} → Digits n q → List·Memᴰ q (allProducts n)
@@ -45,7 +72,7 @@ found-e {A} test l = go (find test l) (find-is test l)
   where
     go : (o : Option A) → Find test l o → T (found o) → (a : A) × List·Memᴰ a l × T (test a)
     go none v t = absurd t
-    go (some a) (hit m u) t = (a, m, u)
+    go (some a) (hit m u _) t = (a, m, u)
 
 lacking : {A : Type 0} (test : A → Bool) (l : List A) → ¬ T (found (find test l)) → (a : A) → List·Memᴰ a l → ¬ T (test a)
 lacking test l t = find-none test l .0 (not-found t)

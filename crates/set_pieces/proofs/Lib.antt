@@ -1,2 +1,0 @@
-pub mod Essential
-pub mod Theorem

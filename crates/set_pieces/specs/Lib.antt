@@ -1,3 +1,0 @@
-pub mod Piece
-pub mod Table
-pub mod Essential

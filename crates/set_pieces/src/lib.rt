@@ -1,1 +1,0 @@
-// The set pieces stand in specs/, their theorem in proofs/.
