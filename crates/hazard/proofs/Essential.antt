@@ -108,12 +108,14 @@ module _ (n : ℕ) (f ts : List ℕ) (accepted : Accepted n f ts) (net : Network
   top r m =
       let s = sure (found (find (greatest n f ts (r .cube)) net)) (lacking (λ (q : Required). not (found (find (greatest n f ts (q .cube)) net))) rs (parts .1 .0) r m) in
       let (p, u, g) = found-e (greatest n f ts (r .cube)) net s in
-      let h = simp (T-and, T-no) at g in
-      (p, record {
-        member = u;
-        around = h .0;
-        above = λ q w d i. sure (inside q p) (λ v. lacking (escapes n f ts (r .cube) p) (allProducts n) (h .1) q (in-all (digits→ n q w)) (T-and (inside (r .cube) q) (dhf n f ts q && not (inside q p)) .1 (i, T-and (dhf n f ts q) (not (inside q p)) .1 (T-and (isProduct n q) (dhfImplicant n (off f) (privileged n f ts) q) .1 (w, d), v))));
-      })
+      let h = simp (T-and, T-no) at g in (
+        p,
+        record {
+          member = u;
+          around = h .0;
+          above = λ q w d i. sure (inside q p) (λ v. lacking (escapes n f ts (r .cube) p) (allProducts n) (h .1) q (in-all (digits→ n q w)) (T-and (inside (r .cube) q) (dhf n f ts q && not (inside q p)) .1 (i, T-and (dhf n f ts q) (not (inside q p)) .1 (T-and (isProduct n q) (dhfImplicant n (off f) (privileged n f ts) q) .1 (w, d), v))));
+        },
+      )
 
   own : Irredundant rs net
   own j l =

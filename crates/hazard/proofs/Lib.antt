@@ -30,3 +30,4 @@ pub mod Minimal
 -- The set pieces.
 pub mod Essential
 pub mod Pieces
+pub mod Examples

@@ -22,18 +22,43 @@ exactly n f ts net a e t = record { taken = e; meets = essential-minimal n f ts 
 
 -- K1 to K12, in the order of the table.
 pub set-pieces : Every Holds pieces
-set-pieces =
-    (exactly _ _ _ _ refl refl tt,
-    (exactly _ _ _ _ refl refl tt,
-    (refl,
-    (exactly _ _ _ _ refl refl tt,
-    (refl,
-    ((λ w. refl, refl),
-    (refl,
-    (refl,
-    (exactly _ _ _ _ refl refl tt,
-    (refl,
-    (refl,
-    (refl,
-    (refl,
-    tt)))))))))))))
+set-pieces = (
+  exactly _ _ _ _ refl refl tt,
+  (
+    exactly _ _ _ _ refl refl tt,
+    (
+      refl,
+      (
+        exactly _ _ _ _ refl refl tt,
+        (
+          refl,
+          (
+            (λ w. refl, refl),
+            (
+              refl,
+              (
+                refl,
+                (
+                  exactly _ _ _ _ refl refl tt,
+                  (
+                    refl,
+                    (
+                      refl,
+                      (
+                        refl,
+                        (
+                          refl,
+                          tt,
+                        ),
+                      ),
+                    ),
+                  ),
+                ),
+              ),
+            ),
+          ),
+        ),
+      ),
+    ),
+  ),
+)

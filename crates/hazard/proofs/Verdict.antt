@@ -1,9 +1,9 @@
 -- The verifier is right: it passes exactly the hazard-free networks.
-use mathlib.Core.Path.{_≡_, refl, sym}
+use mathlib.Core.Path.{_≡_, refl, sym, subst}
 use mathlib.Core.Logic.{_↔_}
 use mathlib.Core.Bool.{not, _&&_}
 use mathlib.Core.List.{List, [], _∷_, _++_, List·Memᴰ}
-use mathlib.Core.Option.{Option, none, some, Option·map, map-eq-none-iff}
+use mathlib.Core.Option.{Option, none, some, Option·map, map-eq-none-iff, Option·some-injective}
 use Prim.Native.Nat.{ℕ, _+_, _^_, _≤_, _<_}
 use native.Mathlib.Omega.{arith}
 use lib.Dec.{T, T-not}
@@ -16,17 +16,17 @@ use Rattle.hazard.specs.Implicant.{illegal, lowestZero}
 use Rattle.hazard.specs.Cover.{Network, productAt, WellFormed, covered, HazardFreeCover}
 use Rattle.hazard.specs.HazardFree.{HazardFree}
 use Rattle.hazard.specs.Refusal.{Refusal, inputChecks, Accepted}
-use Rattle.hazard.specs.Verdict.{products, productsCheck, digitsCheck, verifierChecks, Verdict, refused, passed, holdsZero, intersects, uncovered, faultA, faultC, fault, verdict}
+use Rattle.hazard.specs.Verdict.{products, productsCheck, digitsCheck, verifierChecks, Verdict, refused, passed, holdsZero, intersects, uncovered, faultA, faultC, faultB, fault, verdict}
 use Rattle.hazard.proofs.Test.{T-and, sure}
-use Rattle.hazard.proofs.Search.{none-some, first-none, none-first, find-none, place-none, firstOf-none, firstOf-append, First, nowhere, lowest, first-is, Find, missing, hit, find-is, Earlier, Place, empty, placed, place-is}
+use Rattle.hazard.proofs.Search.{none-some, first-none, none-first, find-none, place-none, firstOf-none, firstOf-append, First, lowest, first-is, Find, hit, find-is, Earlier, Place, placed, place-is}
 use Rattle.hazard.proofs.Network.{entry-at, at-places}
 use Rattle.hazard.proofs.Theorem.{cover-hazard-free}
 
 -- Conditions (a) and (c) of a product.
-abbrev ConditionA : ℕ → List ℕ → Cube → Type 0
+abbrev pub ConditionA : ℕ → List ℕ → Cube → Type 0
 ConditionA n f p = (x : ℕ) → x < 2 ^ n → T (off f x) → ¬ T (has p x)
 
-abbrev ConditionC : List Privileged → Cube → Type 0
+abbrev pub ConditionC : List Privileged → Cube → Type 0
 ConditionC vs p = (v : Privileged) → List·Memᴰ v vs → ¬ T (illegal p v)
 
 module _ (n : ℕ) (f ts : List ℕ) (net : Network) where
@@ -56,32 +56,91 @@ module _ (n : ℕ) (f ts : List ℕ) (net : Network) where
       places : (faultC n f ts net ≡ none) ↔ ((j : ℕ) → 0 ≤ j → j < 0 + length net → look j ≡ none)
       places = place-none look 0 (length net)
 
-  none-b : (find (λ r. not (covered net (r .cube))) (required n f ts) ≡ none) ↔ ((r : Required) → List·Memᴰ r (required n f ts) → T (covered net (r .cube)))
+  none-b : (faultB n f ts net ≡ none) ↔ ((r : Required) → List·Memᴰ r (required n f ts) → T (covered net (r .cube)))
   none-b =
       let s = find-none (λ (r : Required). not (covered net (r .cube))) (required n f ts) in
       (λ e r m. sure (covered net (r .cube)) (s .0 e r m), λ h. s .1 (λ r m t. T-not (covered net (r .cube)) t (h r m)))
 
-  -- The verdict is `passed` exactly if the three searches find nothing.
-  pub fault-passed : (fault n f ts net ≡ passed) ↔ HazardFreeCover n f ts net
-  fault-passed = (
-    λ e. let r = stages (faultA n f net) (faultC n f ts net) unmet .0 e in record { a = none-a .0 (r .0); b = none-b .0 (r .2); c = none-c .0 (r .1) },
-    λ h. stages (faultA n f net) (faultC n f ts net) unmet .1 (none-a .1 (h .a), none-c .1 (h .c), none-b .1 (h .b)),
-  )
-    where
-      unmet : Option Required
-      unmet = find (λ r. not (covered net (r .cube))) (required n f ts)
+-- What each verdict names, and what was tried before it and found in order.
+pub data Named (n : ℕ) (f ts : List ℕ) (net : Network) : Verdict → Type 0 where
+  -- Nothing.
+  none-named : HazardFreeCover n f ts net → Named n f ts net passed
+  -- The lowest zero in the first product that has one.
+  zero-named : {j x : ℕ} → j < length net → x < 2 ^ n → T (has (productAt net j) x) → T (off f x) → ((y : ℕ) → y < x → T (off f y) → ¬ T (has (productAt net j) y))
+      → ((i : ℕ) → i < j → ConditionA n f (productAt net i)) → Named n f ts net (holdsZero j x)
+  -- The first transition that the first such product meets illegally; (a) holds.
+  illegal-named : {j : ℕ} {v : Privileged} → j < length net → (m : List·Memᴰ v (privileged n f ts)) → T (illegal (productAt net j) v) → Earlier (illegal (productAt net j)) m
+      → ((i : ℕ) → i < j → ConditionC (privileged n f ts) (productAt net i)) → ((p : Cube) → List·Memᴰ p net → ConditionA n f p) → Named n f ts net (intersects j (v .transition))
+  -- The first required cube that no product contains; (a) and (c) hold.
+  cube-named : {r : Required} → (m : List·Memᴰ r (required n f ts)) → ¬ T (covered net (r .cube)) → Earlier (λ q. not (covered net (q .cube))) m
+      → ((p : Cube) → List·Memᴰ p net → ConditionA n f p) → ((p : Cube) → List·Memᴰ p net → ConditionC (privileged n f ts) p) → Named n f ts net (uncovered (r .transition) (r .label))
 
-      stages : (a c : Option (ℕ × ℕ)) (b : Option Required)
-          → (_≡_ {A = Verdict} (elim a [
+module _ (n : ℕ) (f ts : List ℕ) (net : Network) where
+  -- The zero that a look into one product finds.
+  zero-at : (j : ℕ) {x : ℕ} → lowestZero n (off f) (productAt net j) ≡ some x
+      → (x < 2 ^ n) × T (has (productAt net j) x) × T (off f x) × ((y : ℕ) → y < x → T (off f y) → ¬ T (has (productAt net j) y))
+  zero-at j {x} e = go (lowestZero n (off f) (productAt net j)) e (first-is (λ y. has (productAt net j) y && off f y) 0 (2 ^ n))
+    where
+      go : (o : Option ℕ) → o ≡ some x → First (λ y. has (productAt net j) y && off f y) 0 (2 ^ n) o
+          → (x < 2 ^ n) × T (has (productAt net j) x) × T (off f x) × ((y : ℕ) → y < x → T (off f y) → ¬ T (has (productAt net j) y))
+      go none e v = none-some e
+      go (some z) e (lowest t l m h) =
+          let q : z ≡ x = Option·some-injective z x e in
+          let (i, o) = simp T-and at t in
+          (omega arith, rw q at i, rw q at o, λ y k u w. h y (omega arith) (omega arith) (simp T-and (w, u)))
+
+  -- The privileged cube that a look at one product finds.
+  illegal-at : (j : ℕ) {k : ℕ} → Option·map (λ (v : Privileged). v .transition) (find (illegal (productAt net j)) (privileged n f ts)) ≡ some k
+      → (v : Privileged) × (v .transition ≡ k) × (m : List·Memᴰ v (privileged n f ts)) × T (illegal (productAt net j) v) × Earlier (illegal (productAt net j)) m
+  illegal-at j {k} = go (find (illegal (productAt net j)) (privileged n f ts)) (find-is (illegal (productAt net j)) (privileged n f ts))
+    where
+      go : (o : Option Privileged) → Find (illegal (productAt net j)) (privileged n f ts) o → Option·map (λ (v : Privileged). v .transition) o ≡ some k
+          → (v : Privileged) × (v .transition ≡ k) × (m : List·Memᴰ v (privileged n f ts)) × T (illegal (productAt net j) v) × Earlier (illegal (productAt net j)) m
+      go none w e = none-some e
+      go (some v) (hit m t h) e = (v, Option·some-injective (v .transition) k e, m, t, h)
+
+  pub fault-named : Named n f ts net (fault n f ts net)
+  fault-named =
+      stages (faultA n f net) refl (place-is lookA 0 (length net)) (faultC n f ts net) refl (place-is lookC 0 (length net)) (faultB n f ts net) refl
+      (find-is (λ (r : Required). not (covered net (r .cube))) (required n f ts))
+    where
+      lookA : ℕ → Option ℕ
+      lookA j = lowestZero n (off f) (productAt net j)
+
+      lookC : ℕ → Option ℕ
+      lookC j = Option·map (λ (v : Privileged). v .transition) (find (illegal (productAt net j)) (privileged n f ts))
+
+      stages : (a : Option (ℕ × ℕ)) → faultA n f net ≡ a → Place lookA 0 (length net) a → (c : Option (ℕ × ℕ)) → faultC n f ts net ≡ c → Place lookC 0 (length net) c
+          → (b : Option Required) → faultB n f ts net ≡ b → Find (λ (r : Required). not (covered net (r .cube))) (required n f ts) b
+          → Named n f ts net (elim a [
             | some p ↦ holdsZero (p .0) (p .1)
             | none ↦ elim c [ some p ↦ intersects (p .0) (p .1) | none ↦ elim b [ some r ↦ uncovered (r .transition) (r .label) | none ↦ passed ] ]
-          ]) passed) ↔ ((a ≡ none) × (c ≡ none) × (b ≡ none))
-      stages none none none = (λ e. (refl, refl, refl), λ e. refl)
-      stages none none (some r) = (λ e. let z : _≡_ {A = ℕ} 0 1 = cc in absurd (omega arith), λ e. none-some (sym (e .2)))
-      stages none (some p) b = (λ e. let z : _≡_ {A = ℕ} 0 1 = cc in absurd (omega arith), λ e. none-some (sym (e .1)))
-      stages (some p) c b = (λ e. let z : _≡_ {A = ℕ} 0 1 = cc in absurd (omega arith), λ e. none-some (sym (e .0)))
+          ])
+      stages (some p) ea (placed {k = j} l m e h) c ec pc b eb fb =
+          let (i, t, o, w) = zero-at j e in
+          zero-named {j = j} (omega arith) i t o w (λ i k x u z v. first-none (λ y. has (productAt net i) y && off f y) 0 (2 ^ n) (h i (omega arith) k) x (omega arith) (omega arith) (simp T-and (v, z)))
+      stages none ea pa (some p) ec (placed {k = j} l m e h) b eb fb =
+          let (v, q, u, t, w) = illegal-at j e in
+          subst (λ (z : ℕ). Named n f ts net (intersects j z)) q
+          (illegal-named {j = j} (omega arith) u t w
+          (λ i k. find-none (illegal (productAt net i)) (privileged n f ts) .0 (map-eq-none-iff (λ (z : Privileged). z .transition) (find (illegal (productAt net i)) (privileged n f ts)) .0 (h i (omega arith) k)))
+          (none-a n f ts net .0 ea))
+      stages none ea pa none ec pc (some r) eb (hit m t h) = cube-named m (T-not (covered net (r .cube)) t) h (none-a n f ts net .0 ea) (none-c n f ts net .0 ec)
+      stages none ea pa none ec pc none eb fb = none-named (record { a = none-a n f ts net .0 ea; b = none-b n f ts net .0 eb; c = none-c n f ts net .0 ec })
 
-  -- For an accepted table and a well-formed network, `passed` means hazard-free.
+  -- The verdict is `passed` exactly if the three conditions hold.
+  pub fault-passed : (fault n f ts net ≡ passed) ↔ HazardFreeCover n f ts net
+  fault-passed = (λ e. whole (subst (Named n f ts net) e fault-named), λ h. only (fault n f ts net) fault-named h)
+    where
+      whole : Named n f ts net passed → HazardFreeCover n f ts net
+      whole (none-named h) = h
+
+      only : (v : Verdict) → Named n f ts net v → HazardFreeCover n f ts net → v ≡ passed
+      only passed w h = refl
+      only (holdsZero j x) (zero-named l m t o u w) h = absurd (h .a (productAt net j) (entry-at net j l) x m o t)
+      only (intersects j k) (illegal-named {v = v} l m t u w z) h = absurd (h .c (productAt net j) (entry-at net j l) v m t)
+      only (uncovered k x) (cube-named {r = r} m t u w z) h = absurd (t (h .b r m))
+
   pub passed-hazard-free : Accepted n f ts → WellFormed n net → (fault n f ts net ≡ passed) ↔ HazardFree n f ts net
   passed-hazard-free accepted well =
       let t = cover-hazard-free n f ts net accepted well in
