@@ -7,7 +7,7 @@ use native.Mathlib.Omega.{arith}
 use native.Mathlib.Decide.{decLt}
 use lib.Dec.{T, leb, leb→le, le→leb}
 use lib.ListN.{getD, set}
-use Rattle.hazard.specs.Cube.{Cube, isProduct, has, span, join, meets, inside}
+use Rattle.hazard.specs.Cube.{Cube, isProduct, has, span, join, supercube, meets, inside}
 use Rattle.hazard.proofs.Test.{T-and}
 use Rattle.hazard.proofs.Digit.{Fits, top, same, fits→, →fits, fits-trans, fits-antisym, fits-two, over-left, over-right, over-least, over-digit, literal, digit-points, digit-meet, meet-digit, fix, fix-le, fix-zero, fits-fix, fits-tight}
 
@@ -135,6 +135,23 @@ join-has (d ∷ ds) x = cons (over-right d (x % 2)) (join-has ds (x / 2))
 pub join-least : {c q : Cube} {x : ℕ} → Inside c q → Has q x → Inside (join c x) q
 join-least nil nil = nil
 join-least (cons u h) (cons v k) = cons (over-least u v) (join-least h k)
+
+-- The smallest cube around two cubes.
+pub supercube-digits : {n : ℕ} {c d : Cube} → Digits n c → Digits n d → Digits n (supercube c d)
+supercube-digits nil nil = nil
+supercube-digits (cons {d = d} h v) (cons {d = e} k w) = cons (over-digit d e h) (supercube-digits v w)
+
+pub inside-left : {n : ℕ} {c d : Cube} → Digits n c → Digits n d → Inside c (supercube c d)
+inside-left nil nil = nil
+inside-left (cons {d = d} h v) (cons {d = e} k w) = cons (over-left d e) (inside-left v w)
+
+pub inside-right : {n : ℕ} {c d : Cube} → Digits n c → Digits n d → Inside d (supercube c d)
+inside-right nil nil = nil
+inside-right (cons {d = d} h v) (cons {d = e} k w) = cons (over-right d e) (inside-right v w)
+
+pub supercube-least : {c d q : Cube} → Inside c q → Inside d q → Inside (supercube c d) q
+supercube-least nil nil = nil
+supercube-least (cons u h) (cons v k) = cons (over-least u v) (supercube-least h k)
 
 -- The smallest cube around two points.
 pub span-digits : (n p q : ℕ) → Digits n (span n p q)

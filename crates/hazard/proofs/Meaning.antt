@@ -2,8 +2,8 @@
 use mathlib.Core.Logic.{_↔_}
 use Prim.Native.Nat.{ℕ, _<_, _^_}
 use lib.Dec.{T}
-use Rattle.hazard.specs.Cube.{Cube, isProduct, has, span, join, meets, inside}
-use Rattle.hazard.proofs.Cube.{digits→, →digits, has→, →has, inside→, →inside, inside-has, points-inside, meets→, →meets, join-digits, inside-join, join-has, join-least, span-digits}
+use Rattle.hazard.specs.Cube.{Cube, isProduct, has, span, join, supercube, meets, inside}
+use Rattle.hazard.proofs.Cube.{digits→, →digits, has→, →has, inside→, →inside, inside-has, points-inside, meets→, →meets, join-digits, inside-join, join-has, join-least, supercube-digits, inside-left, inside-right, supercube-least, span-digits}
 use Rattle.hazard.proofs.Point.{In, in-e, in-i}
 
 -- [P,Q] is the cube of all points that agree with P on every input where P and Q agree.
@@ -42,4 +42,22 @@ join-smallest n c x v =
       around = →inside (inside-join c x);
       holds = →has (join-has c x);
       least = λ r i h. →inside (join-least (inside→ c r i) (has→ r x h));
+    }
+
+-- The supercube is the smallest cube around two cubes.
+pub record SmallestOfTwo (n : ℕ) (c d q : Cube) : Type 0 where
+  pub product : T (isProduct n q)
+  pub left : T (inside c q)
+  pub right : T (inside d q)
+  pub least : (r : Cube) → T (inside c r) → T (inside d r) → T (inside q r)
+
+pub supercube-smallest : (n : ℕ) (c d : Cube) → T (isProduct n c) → T (isProduct n d) → SmallestOfTwo n c d (supercube c d)
+supercube-smallest n c d v w =
+    let s = digits→ n c v in
+    let t = digits→ n d w in
+    record {
+      product = →digits (supercube-digits s t);
+      left = →inside (inside-left s t);
+      right = →inside (inside-right s t);
+      least = λ r i j. →inside (supercube-least (inside→ c r i) (inside→ d r j));
     }

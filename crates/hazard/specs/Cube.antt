@@ -46,6 +46,13 @@ abbrev pub join : Cube → ℕ → Cube
 join [] x = []
 join (d ∷ ds) x = over d (x % 2) ∷ join ds (x / 2)
 
+-- The supercube of two cubes: the smallest cube around both.
+abbrev pub supercube : Cube → Cube → Cube
+supercube [] [] = []
+supercube [] (e ∷ es) = []
+supercube (d ∷ ds) [] = []
+supercube (d ∷ ds) (e ∷ es) = over d e ∷ supercube ds es
+
 -- The two cubes share a point.
 abbrev pub meets : Cube → Cube → Bool
 meets [] [] = true

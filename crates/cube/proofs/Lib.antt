@@ -1,0 +1,5 @@
+pub mod Bits
+pub mod Masks
+pub mod Points
+pub mod Following
+pub mod Digits

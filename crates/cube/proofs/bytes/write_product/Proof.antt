@@ -1,0 +1,69 @@
+use mathlib.Core.Path.{_≡_, refl, sym, ap, _∙_}
+use Prim.Native.Nat.{_-_, _≤_}
+use native.Mathlib.Omega.{arith}
+use borrow.Author.Needs.{needs}
+use lib.ListN.{length, length-set}
+use lib.Seq.{paste, paste-zero}
+use Rattle.cube.specs.Mask.{cubeOf}
+use Rattle.cube.proofs.Digits.{write-step}
+use Rattle.cube.proofs.bytes.write_product.Statement.{statement}
+use Rattle.cube.proofs.bytes.write_product.Tie as tie
+
+abbrev Inv-loop : tie.InvT-loop
+Inv-loop n c out₀ at i₀ out i = (i ≤ n) × (out ≡ paste out₀ at (cubeOf n c) i) × (length out ≡ length out₀)
+
+abbrev μ-loop : tie.MeasureT-loop
+μ-loop n c out₀ at i₀ out i = n - i
+
+loop-holds : tie.Need-loop-holds Inv-loop μ-loop
+loop-holds c = let a = c .before .args in (omega arith, paste-zero (a .out .now) (a .at) (cubeOf (a .n) (a .c)), refl)
+
+digit-of-requires : tie.Need-digit-of-requires Inv-loop μ-loop
+digit-of-requires c κs = search needs
+
+add-out : tie.Need-add-out Inv-loop μ-loop
+add-out c = search needs
+
+slice-write-out : tie.Need-slice-write-out Inv-loop μ-loop
+slice-write-out c = search needs
+
+add-i : tie.Need-add-i Inv-loop μ-loop
+add-i c = search needs
+
+loop-less : tie.Need-loop-less Inv-loop μ-loop
+loop-less c = search needs
+
+loop-again : tie.Need-loop-again Inv-loop μ-loop
+loop-again c =
+    let s = c .before .before .before .before in
+    let l = c .before .before .loop in (
+      omega arith,
+      rw (l .inv .1, c .digit-of .ensures) (write-step (s .args .out .now) (s .args .at) (s .args .n) (s .args .c .care) (s .args .c .value) (l .i) (omega arith) (s .pre .1)),
+      simp length-set (l .inv .2),
+    )
+
+same-length : tie.Need-same-length Inv-loop μ-loop
+same-length c = search needs
+
+returns : tie.Need-returns Inv-loop μ-loop
+returns c =
+    let a = c .before .before .before .args in
+    let l = c .before .loop in
+    let e : l .i ≡ a .n = omega arith in
+    l .inv .1 ∙ ap (paste (a .out .now) (a .at) (cubeOf (a .n) (a .c))) e
+
+pub write-product-spec : {M : Type 1} → statement M
+write-product-spec =
+    tie.close
+    (tie.spec
+    Inv-loop
+    μ-loop
+    loop-holds
+    digit-of-requires
+    add-out
+    slice-write-out
+    add-i
+    loop-less
+    loop-again
+    same-length
+    returns)

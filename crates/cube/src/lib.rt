@@ -1,0 +1,5 @@
+// Cubes as two masks, and what the other layers do with them.
+pub mod bytes;
+pub mod entry;
+pub mod mask;
+pub mod point;
