@@ -1,6 +1,7 @@
 -- A cube with a transition and a point, packed into one word of 64 bits: a required cube with its label, or a privileged cube with its start point.
 use mathlib.Core.Path.{_≡_}
-use Prim.Native.Nat.{ℕ, _/_, _%_}
+use Prim.Native.Nat.{ℕ, _/_, _%_, _<_, _^_}
+use lib.Bits.{bitAnd}
 use Rattle.hazard.specs.Sets.{Required, Privileged}
 use Rattle.cube.specs.Mask.{digitsOf}
 
@@ -29,3 +30,9 @@ pub record Packed (w transition point care value : ℕ) : Type 0 where
   pub point· : pointIn w ≡ point
   pub care· : careIn w ≡ care
   pub value· : valueIn w ≡ value
+
+-- The word's cube and point are those of n inputs.
+pub record CleanWord (n w : ℕ) : Type 0 where
+  pub small : careIn w < 2 ^ n
+  pub clean : bitAnd (valueIn w) (careIn w) ≡ valueIn w
+  pub point : pointIn w < 2 ^ n

@@ -1,3 +1,4 @@
 pub mod Mask
 pub mod Next
 pub mod Entry
+pub mod PointSet

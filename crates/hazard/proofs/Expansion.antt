@@ -6,11 +6,11 @@ use Prim.Native.Nat.{ℕ, zero, suc, _+_, _≤_, _<_}
 use native.Mathlib.Omega.{arith}
 use native.Mathlib.Decide.{ℕ-discrete}
 use lib.ListN.{getD, set}
-use Rattle.hazard.specs.Cube.{Cube}
+use Rattle.hazard.specs.Cube.{Cube, supercube}
 use Rattle.hazard.specs.Sets.{Privileged}
 use Rattle.hazard.specs.Growth.{Growth, Legal, Blocked, grow}
-use Rattle.hazard.specs.Expansion.{grownOr, raise, expandFrom, expand}
-use Rattle.hazard.proofs.Cube.{Inside, inside-refl, inside-trans, inside-back, set-digits, inside-set, set-inside, free-inside, free-set}
+use Rattle.hazard.specs.Expansion.{grownOr, raise, expandFrom, expand, absorb}
+use Rattle.hazard.proofs.Cube.{Digits, Inside, supercube-digits, inside-left, inside-refl, inside-trans, inside-back, set-digits, inside-set, set-inside, free-inside, free-set}
 use Rattle.hazard.proofs.Implicant.{Dhf, Wide, Prime}
 use Rattle.hazard.proofs.Growth.{Ends, legal, blocked, grow-ends, blocked-none}
 
@@ -53,3 +53,11 @@ module _ (n : ℕ) (off : ℕ → Bool) (vs : List Privileged) (wide : Wide n vs
 
   pub expand-around : {p : Cube} → Dhf n off vs p → Inside p (expand n off vs p)
   expand-around d = expandFrom-is 0 n d .around
+
+  -- What is absorbed leaves a dhf-implicant around the cube.
+  pub absorb-is : {p r : Cube} → Dhf n off vs p → Digits n r → Dhf n off vs (absorb n off vs p r) × Inside p (absorb n off vs p r)
+  absorb-is {p} {r} d w = go (grow n off vs (supercube p r)) (grow-ends n off vs wide (supercube-digits (d .digits) w))
+    where
+      go : (g : Growth) → Ends n off vs (supercube p r) g → Dhf n off vs (grownOr p g) × Inside p (grownOr p g)
+      go (Legal c s) (legal h k m) = (h, inside-trans (inside-left (d .digits) w) k)
+      go (Blocked z s) v = (d, inside-refl p)

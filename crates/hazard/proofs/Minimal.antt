@@ -60,7 +60,7 @@ irredundant-nodup rs (p ∷ net) h = Pairwise·cons (λ q m. other q m) (irredun
 
 module _ (n : ℕ) (f ts : List ℕ) where
   -- A growth that ends blocked is refusal 10, and no other.
-  block-none : (r : Required) → (blockCheck n f ts r ≡ none) ↔ Grown (grow n (off f) (privileged n f ts) (r .cube))
+  block-none : (r : Required) → (blockCheck n (off f) (privileged n f ts) r ≡ none) ↔ Grown (grow n (off f) (privileged n f ts) (r .cube))
   block-none r = go (grow n (off f) (privileged n f ts) (r .cube))
     where
       go : (g : Growth) → (_≡_ {A = Option Refusal} (elim g [
@@ -73,7 +73,7 @@ module _ (n : ℕ) (f ts : List ℕ) where
   -- No required cube blocks exactly if there is a hazard-free cover.
   pub cover-iff : (blocking n f ts ≡ none) ↔ ((net : Network) × WellFormed n net × HazardFreeCover n f ts net)
   cover-iff =
-      let b = firstOf-map (blockCheck n f ts) (required n f ts) in
+      let b = firstOf-map (blockCheck n (off f) (privileged n f ts)) (required n f ts) in
       let c = cover-exists n (off f) (required n f ts) (privileged n f ts) (privileged-wide n f ts) (required-digits n f ts) in
       (λ e. c .0 (λ r m. block-none r .0 (b .0 e r m)), λ h. b .1 (λ r m. block-none r .1 (c .1 h r m)))
 
@@ -88,7 +88,7 @@ module _ (n : ℕ) (f ts : List ℕ) where
     -- A required cube contains no zero, so one that blocks has taken at least one step; and at most n.
     pub block-steps : (q : Refusal) → blocking n f ts ≡ some q → (1 ≤ q .steps) × (q .steps ≤ n)
     block-steps q e =
-        let (r, m, h) = firstOf-some (blockCheck n f ts) (required n f ts) e in
+        let (r, m, h) = firstOf-some (blockCheck n (off f) (privileged n f ts)) (required n f ts) e in
         let w = required-digits n f ts r m in
         go r (grow n (off f) vs (r .cube)) (grow-runs n (off f) vs wide w) (grow-steps n (off f) vs wide w) (free r m) h
       where

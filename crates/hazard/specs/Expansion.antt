@@ -3,7 +3,7 @@ use mathlib.Core.Bool.{Bool}
 use mathlib.Core.List.{List}
 use Prim.Native.Nat.{ℕ, zero, suc}
 use lib.ListN.{set}
-use Rattle.hazard.specs.Cube.{Cube}
+use Rattle.hazard.specs.Cube.{Cube, supercube}
 use Rattle.hazard.specs.Sets.{Privileged}
 use Rattle.hazard.specs.Growth.{Growth, Legal, Blocked, grow}
 
@@ -24,3 +24,7 @@ module _ (n : ℕ) (off : ℕ → Bool) (vs : List Privileged) where
 
   abbrev pub expand : Cube → Cube
   expand p = expandFrom 0 n p
+
+  -- The cube grown over a further one, where that ends legal.
+  abbrev pub absorb : Cube → Cube → Cube
+  absorb p r = grownOr p (grow n off vs (supercube p r))
