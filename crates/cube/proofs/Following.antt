@@ -143,3 +143,21 @@ pub next-is : (n care value x : ℕ) → care < 2 ^ n → bitAnd value care ≡ 
 next-is n care value x h e l t =
     let r = follow n care value x h e l (has→ (digitsOf n care value) x t) in
     record { later = r .later; gap = λ z a b c u. r .gap z a b c (has→ (digitsOf n care value) z u); in· = λ b. →has (r .here b) }
+
+-- A point of a clean cube is not below its value mask.
+value-low : (c v x : ℕ) → bitAnd (v % 2) (c % 2) ≡ v % 2 → Fits (x % 2) (digit (c % 2) (v % 2)) → v % 2 ≤ x % 2
+value-low =
+    bit-case3 (λ c v x. bitAnd v c ≡ v → Fits x (digit c v) → v ≤ x)
+    (λ e f. omega arith) (λ e f. omega arith) (λ e f. absurd (omega (arith, e))) (λ e f. omega arith)
+    (λ e f. omega arith) (λ e f. omega arith) (λ e f. absurd (omega (arith, one-fits 0 1 f (omega arith)))) (λ e f. omega arith)
+
+value-below : (n care value x : ℕ) → care < 2 ^ n → bitAnd value care ≡ value → Has (digitsOf n care value) x → value ≤ x
+value-below zero care value x h e t =
+    let p : care ≡ 0 = lt-one h in
+    let r : value ≡ 0 = sym e ∙ ap (bitAnd value) p ∙ and-zero-r value in
+    omega arith
+value-below (suc n) care value x h e (cons f t) =
+    omega (arith, value-below n (care / 2) (value / 2) (x / 2) (half-lt care n h) (clean-half care value e) t, value-low care value x (clean-last care value e) f)
+
+pub value-least : (n care value x : ℕ) → care < 2 ^ n → bitAnd value care ≡ value → T (has (digitsOf n care value) x) → value ≤ x
+value-least n care value x h e t = value-below n care value x h e (has→ (digitsOf n care value) x t)

@@ -3,3 +3,4 @@ pub mod Masks
 pub mod Points
 pub mod Following
 pub mod Digits
+pub mod Scan

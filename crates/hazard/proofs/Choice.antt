@@ -11,7 +11,7 @@ use lib.Dec.{T}
 use lib.ListN.{length, length-append}
 use Rattle.hazard.specs.Cube.{Cube, inside}
 use Rattle.hazard.specs.Sets.{Required}
-use Rattle.hazard.specs.Cover.{Network, productAt, covered, without}
+use Rattle.hazard.specs.Cover.{Network, covered, without, Own, Irredundant}
 use Rattle.hazard.proofs.Test.{or-l, or-r, or-e, known}
 
 pub covered-append-l : (xs ys : Network) (c : Cube) → T (covered xs c) → T (covered (xs ++ ys) c)
@@ -30,17 +30,6 @@ snoc-covered (q ∷ xs) p c t =
       | inl u ↦ inl (or-l (inside c q) (covered xs c) u)
       | inr u ↦ elim (snoc-covered xs p c u) [ inl v ↦ inl (or-r (inside c q) (covered xs c) v) | inr v ↦ inr v ]
     ]
-
--- A required cube that lies in product j of the network, and in no other product.
-pub record Own (rs : List Required) (net : Network) (j : ℕ) : Type 0 where
-  pub cube : Required
-  pub listed : List·Memᴰ cube rs
-  pub mine : T (inside (cube .cube) (productAt net j))
-  pub alone : ¬ T (covered (without j net) (cube .cube))
-
--- Each product has a required cube of its own.
-abbrev pub Irredundant : List Required → Network → Type 0
-Irredundant rs net = (j : ℕ) → j < length net → Own rs net j
 
 -- Where the choice stands: the products still to look at, and those kept.
 pub record Chosen (rs : List Required) (ahead kept : Network) : Type 0 where

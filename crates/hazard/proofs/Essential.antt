@@ -14,14 +14,13 @@ use Rattle.hazard.specs.Cube.{Cube, isProduct, inside}
 use Rattle.hazard.specs.Transition.{off}
 use Rattle.hazard.specs.Sets.{Required, required, privileged}
 use Rattle.hazard.specs.Implicant.{dhfImplicant, DhfPrime}
-use Rattle.hazard.specs.Cover.{Network, productAt, covered, without}
+use Rattle.hazard.specs.Cover.{Network, productAt, covered, without, Own, Irredundant}
 use Rattle.hazard.specs.Refusal.{Accepted}
 use Rattle.hazard.specs.Minimal.{Minimal}
 use Rattle.hazard.proofs.Test.{T-and, T-no, sure}
 use Rattle.hazard.proofs.Search.{not-found, Find, missing, hit, find-is, find-none, first-none}
 use Rattle.hazard.proofs.Cube.{Digits, nil, cons, digits→, inside→, →inside, inside-trans, inside-antisym}
 use Rattle.hazard.proofs.Network.{place-of, entry-at, covered-e, covered-by}
-use Rattle.hazard.proofs.Choice.{Own, Irredundant}
 use Rattle.hazard.proofs.Minimal.{irredundant-nodup, minimal, minimal-own}
 
 -- All the products of n inputs.

@@ -16,7 +16,7 @@ use Rattle.hazard.specs.Transition.{off}
 use Rattle.hazard.specs.Sets.{Required, Privileged, required, privileged}
 use Rattle.hazard.specs.Implicant.{lowestZero, DhfPrime}
 use Rattle.hazard.specs.Growth.{Growth, Legal, Blocked, steps, grow}
-use Rattle.hazard.specs.Cover.{Network, productAt, WellFormed, covered, without, HazardFreeCover}
+use Rattle.hazard.specs.Cover.{Network, productAt, WellFormed, covered, without, Own, Irredundant, HazardFreeCover}
 use Rattle.hazard.specs.HazardFree.{HazardFree}
 use Rattle.hazard.specs.Refusal.{Refusal, Accepted}
 use Rattle.hazard.specs.Minimal.{blockCheck, blocking, Minimal}
@@ -27,7 +27,6 @@ use Rattle.hazard.proofs.Network.{covered-by}
 use Rattle.hazard.proofs.Implicant.{Wide, prime-is}
 use Rattle.hazard.proofs.Growth.{Grows, blocked-later, grow-runs, grow-steps}
 use Rattle.hazard.proofs.Existence.{Grown, dhf-cover, cover-exists}
-use Rattle.hazard.proofs.Choice.{Own, Irredundant}
 use Rattle.hazard.proofs.Source.{required-ones}
 use Rattle.hazard.proofs.Theorem.{cover-hazard-free}
 

@@ -3,7 +3,7 @@ use mathlib.Core.Bool.{Bool, true, false, _||_}
 use mathlib.Core.List.{List, [], _∷_, List·Memᴰ}
 use Prim.Native.Nat.{ℕ, zero, suc, _<_, _^_}
 use lib.Dec.{T}
-use lib.ListN.{getD}
+use lib.ListN.{length, getD}
 use Rattle.hazard.specs.Cube.{Cube, isProduct, has, inside}
 use Rattle.hazard.specs.Transition.{off}
 use Rattle.hazard.specs.Sets.{Required, Privileged, required, privileged}
@@ -36,6 +36,17 @@ abbrev pub without : ℕ → Network → Network
 without j [] = []
 without zero (p ∷ net) = net
 without (suc j) (p ∷ net) = p ∷ without j net
+
+-- A required cube that lies in product j of the network, and in no other product.
+pub record Own (rs : List Required) (net : Network) (j : ℕ) : Type 0 where
+  pub cube : Required
+  pub listed : List·Memᴰ cube rs
+  pub mine : T (inside (cube .cube) (productAt net j))
+  pub alone : ¬ T (covered (without j net) (cube .cube))
+
+-- Each product has a required cube of its own.
+abbrev pub Irredundant : List Required → Network → Type 0
+Irredundant rs net = (j : ℕ) → j < length net → Own rs net j
 
 -- (a) no product contains a point of the OFF-set; (b) each required cube lies in a single product; (c) no illegal intersection.
 pub record Cover (n : ℕ) (off : ℕ → Bool) (rs : List Required) (vs : List Privileged) (net : Network) : Type 0 where

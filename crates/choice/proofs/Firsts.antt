@@ -1,0 +1,68 @@
+-- The first product that contains a cube, and what the products before it cover.
+use mathlib.Core.Path.{_≡_, refl, sym, ap, _∙_}
+use mathlib.Core.Bool.{Bool, true, false}
+use mathlib.Core.List.{List, [], _∷_, _++_, map}
+use mathlib.Core.Option.{Option, none, some, Option·some-injective}
+use Prim.Native.Nat.{ℕ, zero, suc, _+_, _≤_, _<_}
+use native.Mathlib.Nat.{not-suc-le-zero, le-of-suc-le-suc}
+use native.Mathlib.Omega.{arith}
+use lib.Dec.{T, eqb}
+use lib.ListN.{length, getD, take, length-take, length-map}
+use lib.Seq.{take-suc, getD-take}
+use Rattle.hazard.specs.Search.{first}
+use Rattle.hazard.specs.Cube.{Cube, inside}
+use Rattle.hazard.specs.Cover.{Network, productAt, covered}
+use Rattle.hazard.proofs.Search.{none-some, First, nowhere, lowest, first-is}
+use Rattle.hazard.proofs.Network.{covered-e, covered-i}
+use Rattle.choice.specs.Network.{cubeIn, networkIn}
+use Rattle.choice.specs.First.{firstIn, placeOf, noteOf}
+
+-- A map, part by part.
+pub map-take : {A B : Type 0} (f : A → B) (j : ℕ) (l : List A) → map f (take j l) ≡ take j (map f l)
+map-take f zero l = refl
+map-take f (suc j) [] = refl
+map-take f (suc j) (a ∷ l) = ap (λ m. f a ∷ m) (map-take f j l)
+
+pub map-append : {A B : Type 0} (f : A → B) (l m : List A) → map f (l ++ m) ≡ map f l ++ map f m
+map-append f [] m = refl
+map-append f (a ∷ l) m = ap (λ k. f a ∷ k) (map-append f l m)
+
+pub product-in : (n : ℕ) (ws : List ℕ) (j : ℕ) → j < length ws → productAt (networkIn n ws) j ≡ cubeIn n (getD ws j 0)
+product-in n [] j h = absurd (not-suc-le-zero h)
+product-in n (w ∷ ws) zero h = refl
+product-in n (w ∷ ws) (suc j) h = product-in n ws j (le-of-suc-le-suc h)
+
+-- The products up to j, and product j.
+pub network-suc : (n : ℕ) (ws : List ℕ) (j : ℕ) → j < length ws → networkIn n (take (suc j) ws) ≡ networkIn n (take j ws) ++ (cubeIn n (getD ws j 0) ∷ [])
+network-suc n ws j h = ap (networkIn n) (take-suc ws j 0 h) ∙ map-append (cubeIn n) (take j ws) (getD ws j 0 ∷ [])
+
+module _ (net : Network) (c : Cube) where
+  -- The first product contains the cube, and those before it do not.
+  pub first-covered : {j : ℕ} → firstIn net c ≡ some j → (j < length net) × T (inside c (productAt net j)) × (¬ T (covered (take j net) c))
+  first-covered {j} e = go (firstIn net c) e (first-is (λ k. inside c (productAt net k)) 0 (length net))
+    where
+      go : (o : Option ℕ) → o ≡ some j → First (λ k. inside c (productAt net k)) 0 (length net) o → (j < length net) × T (inside c (productAt net j)) × (¬ T (covered (take j net) c))
+      go none e v = none-some e
+      go (some k) e (lowest t l m h) =
+          let q : k ≡ j = Option·some-injective k j e in
+          let b : j ≤ length net = omega arith in (
+            omega arith,
+            rw q at t,
+            λ u. let (i, w, s) = covered-e (take j net) c u in
+                let a : i < j = omega (arith, length-take j net) in
+                h i (omega arith) (omega arith) (rw (getD-take j net i [] a) at s),
+          )
+
+  -- And a product that contains the cube, where those before it do not, is the first.
+  pub covered-first : (j : ℕ) → j < length net → T (inside c (productAt net j)) → ¬ T (covered (take j net) c) → firstIn net c ≡ some j
+  covered-first j l t u = go (firstIn net c) (first-is (λ k. inside c (productAt net k)) 0 (length net))
+    where
+      go : (o : Option ℕ) → First (λ k. inside c (productAt net k)) 0 (length net) o → o ≡ some j
+      go none (nowhere h) = absurd (h j (omega arith) (omega arith) t)
+      go (some k) (lowest s a b h) = ap some (omega (arith, low, high))
+        where
+          low : ¬ (k < j)
+          low p = u (covered-i (take j net) c k (omega (arith, length-take j net)) (rw (getD-take j net k [] p) s))
+
+          high : ¬ (j < k)
+          high p = h j (omega arith) p t

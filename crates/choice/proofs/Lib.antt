@@ -1,0 +1,4 @@
+pub mod Sweep
+pub mod Words
+pub mod Firsts
+pub mod Keeping

@@ -1,0 +1,3 @@
+pub mod Network
+pub mod First
+pub mod Keep

@@ -1,0 +1,4 @@
+// Choice: which products contain which required cubes, and which products can be dropped.
+pub mod cover;
+pub mod first;
+pub mod keep;
