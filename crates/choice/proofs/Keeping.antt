@@ -1,9 +1,9 @@
 -- The invariant of the backward choice, and its turns.
 use mathlib.Core.Path.{_≡_, refl, sym, ap, _∙_, subst}
-use mathlib.Core.Bool.{Bool, true, false, cond, not, _&&_, _||_, or-comm}
+use mathlib.Core.Bool.{Bool, true, false, not, _&&_, _||_, or-comm}
 use mathlib.Core.Logic.{inl, inr}
 use mathlib.Core.List.{List, [], _∷_, _++_, map, List·Memᴰ, List·Memᴰ·head, List·Memᴰ·tail, Memᴰ·map, Memᴰ·of-map}
-use mathlib.Core.Option.{none, some, Option·some-injective}
+use mathlib.Core.Option.{some}
 use Prim.Native.Nat.{ℕ, zero, suc, _+_, _-_, _≤_, _<_}
 use native.Mathlib.Nat.{not-suc-le-zero, le-of-suc-le-suc}
 use native.Mathlib.Omega.{arith}
@@ -15,14 +15,14 @@ use Rattle.hazard.specs.Search.{found, first}
 use Rattle.hazard.specs.Cube.{inside}
 use Rattle.hazard.specs.Sets.{Required}
 use Rattle.hazard.specs.Cover.{covered}
-use Rattle.hazard.proofs.Test.{tests, so, so-not, known, cond-no}
-use Rattle.hazard.proofs.Search.{none-some, any-e, any-i}
+use Rattle.hazard.proofs.Test.{tests, so, so-not, known}
+use Rattle.hazard.proofs.Search.{any-e, any-i}
 use Rattle.hazard.proofs.Choice.{Chosen, choice-start, choice-keep, choice-skip, choice-covers, choice-irredundant}
 use Rattle.cube.specs.Entry.{requiredIn}
 use Rattle.choice.specs.Network.{cubeIn, networkIn}
 use Rattle.choice.specs.First.{firstIn, placeOf}
 use Rattle.choice.specs.Keep.{neededIn, Noted, Kept}
-use Rattle.choice.proofs.Firsts.{map-take, network-suc, product-in, first-covered, covered-first}
+use Rattle.choice.proofs.Firsts.{map-take, network-suc, product-in, first-covered, covered-first, place-small, place-is}
 
 -- An entry of a list has a place, and what has a place is an entry.
 index-of : {w : ℕ} {ws : List ℕ} → List·Memᴰ w ws → (i : ℕ) × (i < length ws) × (getD ws i 0 ≡ w)
@@ -41,17 +41,6 @@ each-required n required P h q m =
     let (w, u, e) = Memᴰ·of-map (requiredIn n) required m in
     let (i, l, g) = index-of u in
     subst P (ap (requiredIn n) g ∙ e) (h i l)
-
--- A place is noted as itself.
-place-small : (v : ℕ) → v < 65535 → placeOf v ≡ some v
-place-small v h = cond-no (eqb v 65535) none (some v) (λ t. let e = eqb→eq v 65535 t in omega arith)
-
-place-is : (v : ℕ) {j : ℕ} → placeOf v ≡ some j → v ≡ j
-place-is v {j} e = go (eqb v 65535) e
-  where
-    go : (b : Bool) → cond b none (some v) ≡ some j → v ≡ j
-    go true e = none-some e
-    go false e = Option·some-injective v j e
 
 -- A word put before a part of a list.
 drop-set : (ws : List ℕ) (k w : ℕ) → k < length ws → drop k (set ws k w) ≡ w ∷ drop (suc k) ws

@@ -1,4 +1,5 @@
 pub mod Sweep
 pub mod Words
 pub mod Firsts
+pub mod Choosing
 pub mod Keeping
