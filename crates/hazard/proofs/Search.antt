@@ -149,6 +149,10 @@ firstOf-none {A} (o ∷ l) = go o (firstOf-none l)
     go none next = (λ e. elim [ zero ↦ refl | suc i ↦ next .0 e i ], λ h. next .1 (λ i. h (suc i)))
     go (some a) next = (λ e. none-some (sym e), λ h. none-some (sym (h 0)))
 
+pub firstOf-one : {A : Type 0} (o : Option A) → firstOf (o ∷ []) ≡ o
+firstOf-one none = refl
+firstOf-one (some a) = refl
+
 -- Two lists of searches find nothing exactly if each finds nothing.
 pub firstOf-append : {A : Type 0} (l m : List (Option A)) → (firstOf (l ++ m) ≡ none) ↔ ((firstOf l ≡ none) × (firstOf m ≡ none))
 firstOf-append [] m = (λ e. (refl, e), λ e. e .1)

@@ -1,0 +1,2 @@
+// The verifier: whether a network is hazard-free for a table and its transitions, and the first fault if it is not.
+pub mod network;
