@@ -4,3 +4,4 @@ pub mod Points
 pub mod Following
 pub mod Digits
 pub mod Scan
+pub mod Word

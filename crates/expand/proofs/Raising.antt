@@ -1,0 +1,29 @@
+-- The loop that raises a cube's literals.
+use mathlib.Core.Path.{_≡_}
+use mathlib.Core.Bool.{Bool}
+use mathlib.Core.List.{List}
+use Prim.Native.Nat.{ℕ, suc, _+_, _-_, _≤_, _<_}
+use native.Mathlib.Nat.{sub-zero, sub-eq-zero-of-le}
+use native.Mathlib.Numerals.{add-one}
+use native.Mathlib.Omega.{arith}
+use Rattle.hazard.specs.Cube.{Cube}
+use Rattle.hazard.specs.Sets.{Privileged}
+use Rattle.hazard.specs.Expansion.{raise, expandFrom, expand}
+
+module _ (n : ℕ) (off : ℕ → Bool) (vs : List Privileged) where
+  -- The whole answer q is what raising gives from the cube p, input i on.
+  pub record Raising (p : Cube) (i : ℕ) (q : Cube) : Type 0 where
+    pub low : i ≤ n
+    pub rest : q ≡ expandFrom n off vs i (n - i) p
+
+  pub raising-start : (p : Cube) → Raising p 0 (expand n off vs p)
+  raising-start p = record { low = omega arith; rest = rw sub-zero }
+
+module _ {n : ℕ} {off : ℕ → Bool} {vs : List Privileged} {p q : Cube} {i : ℕ} (r : Raising n off vs p i q) where
+  pub raising-step : i < n → Raising n off vs (raise n off vs p i) (i + 1) q
+  raising-step h =
+      let e : n - i ≡ suc (n - (i + 1)) = omega arith in
+      record { low = omega arith; rest = rw (r .rest, e, add-one) }
+
+  pub raising-end : n ≤ i → p ≡ q
+  raising-end h = rw (r .rest, sub-eq-zero-of-le h)

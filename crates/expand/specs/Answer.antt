@@ -1,0 +1,46 @@
+-- The definitions' answers, for the code's.
+use mathlib.Core.Path.{_≡_}
+use mathlib.Core.List.{List, map}
+use mathlib.Core.Option.{Option, none, some}
+use Prim.Native.Nat.{ℕ, _≤_}
+use Rattle.hazard.specs.Cube as digits
+use Rattle.hazard.specs.Sets.{Required, Privileged}
+use Rattle.hazard.specs.Growth as spec
+use Rattle.hazard.specs.Refusal.{Refusal}
+use Rattle.cube.specs.Mask.{cubeOf, Clean}
+use Rattle.cube.specs.Entry.{privilegedIn}
+use Rattle.cube.specs.PointSet.{inSet}
+use Rattle.expand.specs.declared.zero.Found.{Found}
+use Rattle.expand.specs.declared.zero.Found.the-variants as found
+use Rattle.expand.specs.declared.meeting.Met.{Met}
+use Rattle.expand.specs.declared.meeting.Met.the-variants as met
+use Rattle.expand.specs.declared.growth.Grown.{Grown}
+use Rattle.expand.specs.declared.growth.Grown.the-variants.{Legal, Blocked}
+
+abbrev pub foundOf : Found → Option ℕ
+foundOf (found.At x) = some x
+foundOf found.Nothing = none
+
+abbrev pub metOf : ℕ → Met → Option Privileged
+metOf n (met.At w) = some (privilegedIn n w)
+metOf n met.Nothing = none
+
+abbrev pub grownOf : ℕ → Grown → spec.Growth
+grownOf n (Legal c s) = spec.Legal (cubeOf n c) s
+grownOf n (Blocked z s) = spec.Blocked z s
+
+-- The masks of a legal answer are those of a cube of n inputs.
+abbrev pub LegalClean : ℕ → Grown → Type 0
+LegalClean n (Legal c s) = Clean n c
+LegalClean n (Blocked z s) = Unit {0}
+
+-- The answer r of the growth of a cube.
+pub record Grows (n : ℕ) (off privileged : List ℕ) (c : digits.Cube) (r : Grown) : Type 0 where
+  pub is : grownOf n r ≡ spec.grow n (inSet off) (map (privilegedIn n) privileged) c
+  pub few : spec.steps (grownOf n r) ≤ n
+  pub clean : LegalClean n r
+
+-- The refusal of a required cube, from its growth.
+abbrev pub blockedBy : Required → spec.Growth → Option Refusal
+blockedBy r (spec.Legal c s) = none
+blockedBy r (spec.Blocked z s) = some (record { number = 10; transition = r .transition; point = r .label; steps = s; lowest = z; product = 0 })

@@ -1,0 +1,41 @@
+// Supercube-dhf: a cube grown until it is legal or blocked.
+ghost use Rattle.cube.specs.Mask.{cubeOf, Clean};
+ghost use Rattle.expand.specs.Ready.{Ready};
+ghost use Rattle.expand.specs.Answer.{Grows};
+use crate::meeting::Met;
+use crate::meeting::first_illegal;
+use crate::zero::Found;
+use crate::zero::lowest_zero;
+use cube::entry::point_in;
+use cube::mask::Cube;
+use cube::mask::joined;
+
+// How growth ends: legal, with the cube and the steps taken, or blocked, with the lowest zero and the steps taken.
+pub enum Grown {
+    Legal(Cube, u16),
+    Blocked(u16, u16),
+}
+
+// The cube grown: while it has no zero and some illegal intersection, the first privileged cube so met has its start point taken in.
+pub fn grow(n: usize, off: &[u64], privileged: &[u64], c: Cube) -> Grown
+    requires { ⌜ Ready n (now off) ⌝ }
+    requires { ⌜ Clean n c ⌝ }
+    ensures { λ r. ⌜ Grows n (now (off .entry)) (now (privileged .entry)) (cubeOf n c) r ⌝ }
+{
+    let mut cube = c;
+    let mut steps: u16 = 0;
+    while (steps as usize) < n {
+        if let Found::At(z) = lowest_zero(n, off, cube) {
+            return Grown::Blocked(z, steps);
+        }
+        let Met::At(w) = first_illegal(privileged, cube) else {
+            return Grown::Legal(cube, steps);
+        };
+        cube = joined(cube, point_in(w));
+        steps += 1;
+    }
+    match lowest_zero(n, off, cube) {
+        Found::At(z) => Grown::Blocked(z, steps),
+        Found::Nothing => Grown::Legal(cube, steps),
+    }
+}

@@ -1,0 +1,6 @@
+// Growth of cubes to dhf-implicants, expansion to dhf-primes, and the first required cube that blocks.
+pub mod blocking;
+pub mod growth;
+pub mod meeting;
+pub mod prime;
+pub mod zero;
