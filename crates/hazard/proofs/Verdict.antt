@@ -16,7 +16,7 @@ use Rattle.hazard.specs.Implicant.{illegal, lowestZero}
 use Rattle.hazard.specs.Cover.{Network, productAt, WellFormed, covered, HazardFreeCover}
 use Rattle.hazard.specs.HazardFree.{HazardFree}
 use Rattle.hazard.specs.Refusal.{Refusal, inputChecks, Accepted}
-use Rattle.hazard.specs.Verdict.{products, productsCheck, digitsCheck, verifierChecks, Verdict, refused, passed, holdsZero, intersects, uncovered, faultA, faultC, faultB, fault, verdict}
+use Rattle.hazard.specs.Verdict.{products, productsCheck, digitsCheck, verifierChecks, Verdict, refused, passed, holdsZero, intersects, uncovered, faultA, faultC, faultB, firstFault, fault, verdict}
 use Rattle.hazard.proofs.Test.{T-and, sure}
 use Rattle.hazard.proofs.Search.{none-some, first-none, none-first, find-none, place-none, firstOf-none, firstOf-append, First, lowest, first-is, Find, hit, find-is, Earlier, Place, placed, place-is}
 use Rattle.hazard.proofs.Network.{entry-at, at-places}
@@ -31,17 +31,17 @@ ConditionC vs p = (v : Privileged) → List·Memᴰ v vs → ¬ T (illegal p v)
 
 module _ (n : ℕ) (f ts : List ℕ) (net : Network) where
   -- Nothing found in each of the three searches is each of the three conditions.
-  none-a : (faultA n f net ≡ none) ↔ ((p : Cube) → List·Memᴰ p net → ConditionA n f p)
+  none-a : (faultA n (off f) net ≡ none) ↔ ((p : Cube) → List·Memᴰ p net → ConditionA n f p)
   none-a = (
     λ e. at-places (ConditionA n f) net (λ j l x m z t. first-none (λ y. has (productAt net j) y && off f y) 0 (2 ^ n) (places .0 e j (omega arith) (omega arith)) x (omega arith) (omega arith) (simp T-and (t, z))),
     λ h. places .1 (λ j l m. none-first (λ y. has (productAt net j) y && off f y) 0 (2 ^ n) (λ x i k t.
         let r = simp T-and at t in h (productAt net j) (entry-at net j (omega arith)) x (omega arith) (r .1) (r .0))),
   )
     where
-      places : (faultA n f net ≡ none) ↔ ((j : ℕ) → 0 ≤ j → j < 0 + length net → lowestZero n (off f) (productAt net j) ≡ none)
+      places : (faultA n (off f) net ≡ none) ↔ ((j : ℕ) → 0 ≤ j → j < 0 + length net → lowestZero n (off f) (productAt net j) ≡ none)
       places = place-none (λ j. lowestZero n (off f) (productAt net j)) 0 (length net)
 
-  none-c : (faultC n f ts net ≡ none) ↔ ((p : Cube) → List·Memᴰ p net → ConditionC (privileged n f ts) p)
+  none-c : (faultC (privileged n f ts) net ≡ none) ↔ ((p : Cube) → List·Memᴰ p net → ConditionC (privileged n f ts) p)
   none-c = (
     λ e. at-places (ConditionC (privileged n f ts)) net (λ j l. find-none (illegal (productAt net j)) (privileged n f ts) .0 (mapped j .0 (places .0 e j (omega arith) (omega arith)))),
     λ h. places .1 (λ j l m. mapped j .1 (find-none (illegal (productAt net j)) (privileged n f ts) .1 (h (productAt net j) (entry-at net j (omega arith))))),
@@ -53,10 +53,10 @@ module _ (n : ℕ) (f ts : List ℕ) (net : Network) where
       mapped : (j : ℕ) → (look j ≡ none) ↔ (find (illegal (productAt net j)) (privileged n f ts) ≡ none)
       mapped j = map-eq-none-iff (λ (v : Privileged). v .transition) (find (illegal (productAt net j)) (privileged n f ts))
 
-      places : (faultC n f ts net ≡ none) ↔ ((j : ℕ) → 0 ≤ j → j < 0 + length net → look j ≡ none)
+      places : (faultC (privileged n f ts) net ≡ none) ↔ ((j : ℕ) → 0 ≤ j → j < 0 + length net → look j ≡ none)
       places = place-none look 0 (length net)
 
-  none-b : (faultB n f ts net ≡ none) ↔ ((r : Required) → List·Memᴰ r (required n f ts) → T (covered net (r .cube)))
+  none-b : (faultB (required n f ts) net ≡ none) ↔ ((r : Required) → List·Memᴰ r (required n f ts) → T (covered net (r .cube)))
   none-b =
       let s = find-none (λ (r : Required). not (covered net (r .cube))) (required n f ts) in
       (λ e r m. sure (covered net (r .cube)) (s .0 e r m), λ h. s .1 (λ r m t. T-not (covered net (r .cube)) t (h r m)))
@@ -101,7 +101,7 @@ module _ (n : ℕ) (f ts : List ℕ) (net : Network) where
 
   pub fault-named : Named n f ts net (fault n f ts net)
   fault-named =
-      stages (faultA n f net) refl (place-is lookA 0 (length net)) (faultC n f ts net) refl (place-is lookC 0 (length net)) (faultB n f ts net) refl
+      stages (faultA n (off f) net) refl (place-is lookA 0 (length net)) (faultC (privileged n f ts) net) refl (place-is lookC 0 (length net)) (faultB (required n f ts) net) refl
       (find-is (λ (r : Required). not (covered net (r .cube))) (required n f ts))
     where
       lookA : ℕ → Option ℕ
@@ -110,12 +110,9 @@ module _ (n : ℕ) (f ts : List ℕ) (net : Network) where
       lookC : ℕ → Option ℕ
       lookC j = Option·map (λ (v : Privileged). v .transition) (find (illegal (productAt net j)) (privileged n f ts))
 
-      stages : (a : Option (ℕ × ℕ)) → faultA n f net ≡ a → Place lookA 0 (length net) a → (c : Option (ℕ × ℕ)) → faultC n f ts net ≡ c → Place lookC 0 (length net) c
-          → (b : Option Required) → faultB n f ts net ≡ b → Find (λ (r : Required). not (covered net (r .cube))) (required n f ts) b
-          → Named n f ts net (elim a [
-            | some p ↦ holdsZero (p .0) (p .1)
-            | none ↦ elim c [ some p ↦ intersects (p .0) (p .1) | none ↦ elim b [ some r ↦ uncovered (r .transition) (r .label) | none ↦ passed ] ]
-          ])
+      stages : (a : Option (ℕ × ℕ)) → faultA n (off f) net ≡ a → Place lookA 0 (length net) a → (c : Option (ℕ × ℕ)) → faultC (privileged n f ts) net ≡ c → Place lookC 0 (length net) c
+          → (b : Option Required) → faultB (required n f ts) net ≡ b → Find (λ (r : Required). not (covered net (r .cube))) (required n f ts) b
+          → Named n f ts net (firstFault a c b)
       stages (some p) ea (placed {k = j} l m e h) c ec pc b eb fb =
           let (i, t, o, w) = zero-at j e in
           zero-named {j = j} (omega arith) i t o w (λ i k x u z v. first-none (λ y. has (productAt net i) y && off f y) 0 (2 ^ n) (h i (omega arith) k) x (omega arith) (omega arith) (simp T-and (v, z)))

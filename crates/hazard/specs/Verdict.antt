@@ -1,5 +1,5 @@
 -- The verifier's verdict (document 01: the marker's).
-use mathlib.Core.Bool.{not, _||_}
+use mathlib.Core.Bool.{Bool, not, _||_}
 use mathlib.Core.List.{List, [], _∷_, _++_}
 use mathlib.Core.Option.{Option, none, some, Option·map}
 use Prim.Native.Nat.{ℕ, zero, suc, _/_, _%_}
@@ -46,28 +46,27 @@ pub data Verdict : Type 0 where
   uncovered : ℕ → ℕ → Verdict
 
 -- The first failure of (a), by product and then point.
-abbrev pub faultA : ℕ → List ℕ → Network → Option (ℕ × ℕ)
-faultA n f net = firstPlace (λ j. lowestZero n (off f) (productAt net j)) 0 (length net)
+abbrev pub faultA : ℕ → (ℕ → Bool) → Network → Option (ℕ × ℕ)
+faultA n off net = firstPlace (λ j. lowestZero n off (productAt net j)) 0 (length net)
 
-module _ (n : ℕ) (f ts : List ℕ) (net : Network) where
-  -- The first failure of (c), by product and then transition.
-  abbrev pub faultC : Option (ℕ × ℕ)
-  faultC = firstPlace (λ j. Option·map (λ (v : Privileged). v .transition) (find (illegal (productAt net j)) (privileged n f ts))) 0 (length net)
+-- The first failure of (c), by product and then transition.
+abbrev pub faultC : List Privileged → Network → Option (ℕ × ℕ)
+faultC vs net = firstPlace (λ j. Option·map (λ (v : Privileged). v .transition) (find (illegal (productAt net j)) vs)) 0 (length net)
 
-  -- The first failure of (b), in the order of required cubes.
-  abbrev pub faultB : Option Required
-  faultB = find (λ r. not (covered net (r .cube))) (required n f ts)
+-- The first failure of (b), in the order of required cubes.
+abbrev pub faultB : List Required → Network → Option Required
+faultB rs net = find (λ r. not (covered net (r .cube))) rs
 
-  -- The first fault, trying (a), then (c), then (b).
-  abbrev pub fault : Verdict
-  fault =
-      elim (faultA n f net) [
-        | some p ↦ holdsZero (p .0) (p .1)
-        | none ↦ elim faultC [
-          | some p ↦ intersects (p .0) (p .1)
-          | none ↦ elim faultB [ some r ↦ uncovered (r .transition) (r .label) | none ↦ passed ]
-        ]
-      ]
+-- The first fault, trying (a), then (c), then (b).
+abbrev pub firstFault : Option (ℕ × ℕ) → Option (ℕ × ℕ) → Option Required → Verdict
+firstFault a c b =
+    elim a [
+      | some p ↦ holdsZero (p .0) (p .1)
+      | none ↦ elim c [ some p ↦ intersects (p .0) (p .1) | none ↦ elim b [ some r ↦ uncovered (r .transition) (r .label) | none ↦ passed ] ]
+    ]
+
+abbrev pub fault : ℕ → List ℕ → List ℕ → Network → Verdict
+fault n f ts net = firstFault (faultA n (off f) net) (faultC (privileged n f ts) net) (faultB (required n f ts) net)
 
 -- The verdict on a network's bytes.
 abbrev pub verdict : ℕ → List ℕ → List ℕ → List ℕ → Verdict

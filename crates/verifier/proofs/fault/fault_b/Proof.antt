@@ -1,0 +1,70 @@
+use mathlib.Core.Path.{_≡_, sym, ap, _∙_}
+use mathlib.Core.List.{List, map}
+use Prim.Native.Nat.{ℕ, _-_}
+use native.Mathlib.Omega.{arith}
+use lib.ListN.{length, getD, length-map}
+use borrow.Author.Needs.{needs}
+use mathlib.Core.Bool.{not}
+use Rattle.hazard.specs.Sets.{Required}
+use Rattle.hazard.specs.Cover.{covered}
+use Rattle.hazard.specs.Verdict.{faultB}
+use Rattle.cube.specs.Entry.{requiredIn}
+use Rattle.expand.proofs.Words.{Left, left-start, left-end, find-hit, find-miss}
+use Rattle.choice.specs.Network.{networkIn}
+use Rattle.verifier.proofs.fault.fault_b.Statement.{statement}
+use Rattle.verifier.proofs.fault.fault_b.Tie as tie
+
+abbrev Inv-loop : tie.InvT-loop
+Inv-loop n required products k₀ k = Left (λ l. faultB (map (requiredIn n) l) (networkIn n products)) required k
+
+abbrev μ-loop : tie.MeasureT-loop
+μ-loop n required products k₀ k = length required - k
+
+loop-holds : tie.Need-loop-holds Inv-loop μ-loop
+loop-holds c = left-start
+
+mul-w : tie.Need-mul-w Inv-loop μ-loop
+mul-w c = search needs
+
+shared-slice-read-w : tie.Need-shared-slice-read-w Inv-loop μ-loop
+shared-slice-read-w c = search needs
+
+covers-requires : tie.Need-covers-requires Inv-loop μ-loop
+covers-requires c κs i = c .before .before .before .before .before .pre i .small
+
+returns : tie.Need-returns Inv-loop μ-loop
+returns c =
+    let a = c .before .before .before .before .before .before .before .args in
+    find-hit (λ (r : Required). not (covered (networkIn (a .n) (a .products .now)) (r .cube))) (requiredIn (a .n)) (c .before .before .before .before .loop .inv) (omega arith)
+    (ap not (sym (c .before .covers .ensures)) ∙ c .if1 .taken)
+
+add-k : tie.Need-add-k Inv-loop μ-loop
+add-k c = search needs
+
+loop-less : tie.Need-loop-less Inv-loop μ-loop
+loop-less c = search needs
+
+loop-again : tie.Need-loop-again Inv-loop μ-loop
+loop-again c =
+    let a = c .before .before .before .before .before .before .before .args in
+    find-miss (λ (r : Required). not (covered (networkIn (a .n) (a .products .now)) (r .cube))) (requiredIn (a .n)) (c .before .before .before .before .loop .inv) (omega arith)
+    (ap not (sym (c .before .covers .ensures)) ∙ c .if1 .left)
+
+returns-2 : tie.Need-returns-2 Inv-loop μ-loop
+returns-2 c = left-end (c .before .loop .inv) (omega arith)
+
+pub fault-b-spec : {M : Type 1} → statement M
+fault-b-spec =
+    tie.close
+    (tie.spec
+    Inv-loop
+    μ-loop
+    loop-holds
+    mul-w
+    shared-slice-read-w
+    covers-requires
+    returns
+    add-k
+    loop-less
+    loop-again
+    returns-2)
