@@ -9,7 +9,7 @@ use lib.Dec.{T, leb, leb→le, le→leb}
 use lib.ListN.{getD, set}
 use Rattle.hazard.specs.Cube.{Cube, isProduct, has, span, join, supercube, meets, inside}
 use Rattle.hazard.proofs.Test.{T-and}
-use Rattle.hazard.proofs.Digit.{Fits, top, same, fits→, →fits, fits-trans, fits-antisym, fits-two, over-left, over-right, over-least, over-digit, literal, digit-points, digit-meet, meet-digit, fix, fix-le, fix-zero, fits-fix, fits-tight}
+use Rattle.hazard.proofs.Digit.{Fits, top, same, fits→, →fits, fits-trans, fits-antisym, fits-two, over-left, over-right, over-self, over-least, over-digit, literal, digit-points, digit-meet, meet-digit, fix, fix-le, fix-zero, fits-fix, fits-tight}
 
 -- A cube over n inputs; a cube has a point; a cube lies inside a cube.
 pub data Digits : ℕ → Cube → Type 0 where
@@ -148,6 +148,10 @@ inside-left (cons {d = d} h v) (cons {d = e} k w) = cons (over-left d e) (inside
 pub inside-right : {n : ℕ} {c d : Cube} → Digits n c → Digits n d → Inside d (supercube c d)
 inside-right nil nil = nil
 inside-right (cons {d = d} h v) (cons {d = e} k w) = cons (over-right d e) (inside-right v w)
+
+pub supercube-self : (c : Cube) → supercube c c ≡ c
+supercube-self [] = refl
+supercube-self (d ∷ ds) = cc (over-self d, supercube-self ds)
 
 pub supercube-least : {c d q : Cube} → Inside c q → Inside d q → Inside (supercube c d) q
 supercube-least nil nil = nil

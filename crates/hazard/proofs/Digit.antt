@@ -49,7 +49,7 @@ over-left d b = over-cases (λ e. Fits d e) d b (λ e. same refl) (top refl)
 pub over-right : (d b : ℕ) → Fits b (over d b)
 over-right d b = over-cases (λ e. Fits b e) d b (λ e. same (sym e)) (top refl)
 
-over-self : (d : ℕ) → over d d ≡ d
+pub over-self : (d : ℕ) → over d d ≡ d
 over-self d = rw (eqb-self d)
 
 pub over-least : {d b e : ℕ} → Fits d e → Fits b e → Fits (over d b) e

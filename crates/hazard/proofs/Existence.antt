@@ -7,18 +7,13 @@ use Prim.Native.Nat.{ℕ}
 use lib.Dec.{T}
 use Rattle.hazard.specs.Cube.{Cube}
 use Rattle.hazard.specs.Sets.{Required, Privileged}
-use Rattle.hazard.specs.Growth.{Growth, Legal, Blocked, grow}
+use Rattle.hazard.specs.Growth.{Growth, Legal, Blocked, Grown, grow}
 use Rattle.hazard.specs.Expansion.{grownOr}
 use Rattle.hazard.specs.Cover.{Network, productAt, WellFormed, covered, Cover}
 use Rattle.hazard.proofs.Cube.{Digits, Inside, digits→, →digits, has→, →has, has-dec, inside→, →inside}
 use Rattle.hazard.proofs.Implicant.{illegal→, →illegal, Dhf, Wide}
 use Rattle.hazard.proofs.Growth.{Ends, legal, blocked, grow-ends, blocked-none}
 use Rattle.hazard.proofs.Network.{entry-at, covered-e, covered-by}
-
--- Growth ended legal.
-abbrev pub Grown : Growth → Type 0
-Grown (Legal c s) = Unit {0}
-Grown (Blocked z s) = ⊥
 
 module _ (n : ℕ) (off : ℕ → Bool) (rs : List Required) (vs : List Privileged) (wide : Wide n vs) where
   -- The products of a cover are dhf-implicants, and dhf-implicants that cover the required cubes are a cover.

@@ -17,6 +17,11 @@ abbrev pub steps : Growth → ℕ
 steps (Legal c s) = s
 steps (Blocked z s) = s
 
+-- Growth ended legal.
+abbrev pub Grown : Growth → Type 0
+Grown (Legal c s) = Unit {0}
+Grown (Blocked z s) = ⊥
+
 module _ (n : ℕ) (off : ℕ → Bool) (vs : List Privileged) where
   -- While the cube has no zero and some illegal intersection, the first privileged cube so met has its start point taken in.
   -- Each step frees an input, so the fuel never decides where growth ends.

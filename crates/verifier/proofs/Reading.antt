@@ -7,24 +7,14 @@ use native.Mathlib.Numerals.{add-one}
 use native.Mathlib.Omega.{arith}
 use native.Mathlib.Decide.{ℕ-discrete}
 use lib.ListN.{length, getD, take, drop, set, length-set}
-use lib.Pow.{pow-pos}
 use lib.Seq.{take-suc, take-suc-set, take-all, getD-set-same, getD-set-other}
 use Rattle.hazard.specs.Cover.{Network, productAt}
 use Rattle.hazard.specs.Verdict.{products}
-use Rattle.cube.specs.declared.mask.Cube.{Cube}
-use Rattle.cube.specs.Mask.{digitsOf, Stands}
-use Rattle.cube.specs.Entry.{Packed, CleanWord}
+use Rattle.cube.specs.Entry.{CleanWord}
 use Rattle.choice.specs.Network.{cubeIn, networkIn}
 use Rattle.choice.proofs.Firsts.{map-append}
 use Rattle.verifier.specs.Network.{Read}
 use Rattle.verifier.proofs.Bytes.{products-length, products-at}
-
--- A packed cube stands for its digits.
-pub packed-is : {n w t x : ℕ} {c : Cube} {ds : List ℕ} → Packed w t x (c .care) (c .value) → Stands n c ds → cubeIn n w ≡ ds
-packed-is {n} p s = ap₂ (digitsOf n) (p .care·) (p .value·) ∙ s .is
-
-pub packed-clean : {n w t x : ℕ} {c : Cube} {ds : List ℕ} → Packed w t x (c .care) (c .value) → Stands n c ds → x < 2 ^ n → CleanWord n w
-packed-clean p s h = record { small = rw (p .care·) (s .fits .small); clean = rw (p .value·, p .care·) (s .fits .clean); point = rw (p .point·) h }
 
 pub record Reading (n : ℕ) (bytes words : List ℕ) (at j : ℕ) : Type 0 where
   pub place : at ≡ j * n

@@ -4,8 +4,9 @@ use native.Mathlib.Omega.{arith}
 use lib.ListN.{length, length-set}
 use lib.Pow.{pow-pos}
 use borrow.Author.Needs.{needs}
+use Rattle.cube.proofs.Word.{packed-is, packed-clean}
 use Rattle.verifier.proofs.Bytes.{place-room, byte-le}
-use Rattle.verifier.proofs.Reading.{Reading, reading-start, reading-step, reading-end, packed-is, packed-clean}
+use Rattle.verifier.proofs.Reading.{Reading, reading-start, reading-step, reading-end}
 use Rattle.verifier.proofs.network.read_network.Statement.{statement}
 use Rattle.verifier.proofs.network.read_network.Tie as tie
 

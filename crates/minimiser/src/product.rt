@@ -1,0 +1,45 @@
+// The product that is chosen for a required cube.
+ghost use Prim.Native.Nat.{ℕ, _<_};
+ghost use mathlib.Core.List.{map};
+ghost use lib.ListN.{length, getD};
+ghost use Rattle.hazard.specs.Growth as spec;
+ghost use Rattle.cube.specs.Mask.{Clean};
+ghost use Rattle.cube.specs.Entry.{privilegedIn, CleanWord};
+ghost use Rattle.cube.specs.PointSet.{inSet};
+ghost use Rattle.expand.specs.Ready.{Ready};
+ghost use Rattle.choice.specs.Network.{cubeIn};
+ghost use Rattle.minimiser.specs.Product.{Over, ProductFor};
+use cube::entry::cube_in;
+use cube::mask::Cube;
+use cube::mask::lies_inside;
+use expand::prime::absorbed;
+use expand::prime::expanded;
+
+// The cube grown over a further one, where that ends legal; nothing to do where it lies inside already.
+fn grown_over(n: usize, off: &[u64], privileged: &[u64], c: Cube, d: Cube) -> Cube
+    requires { ⌜ Ready n (now off) ⌝ }
+    requires { ⌜ Clean n c ⌝ }
+    ensures { λ r. ⌜ Over n (now (off .entry)) (now (privileged .entry)) c r ⌝ }
+{
+    if lies_inside(d, c) {
+        return c;
+    }
+    absorbed(n, off, privileged, c, d)
+}
+
+// Supercube-dhf of required cube i, grown over the required cubes after it where that stays legal, and expanded to a dhf-prime.
+pub fn product_for(n: usize, off: &[u64], privileged: &[u64], required: &[u64], i: usize) -> Cube
+    requires { ⌜ Ready n (now off) × (i < length (now required)) ⌝ }
+    requires { ⌜ ((k : ℕ) → CleanWord n (getD (now required) k 0)) ⌝ }
+    requires { ⌜ spec.Grown (spec.grow n (inSet (now off)) (map (privilegedIn n) (now privileged)) (cubeIn n (getD (now required) i 0))) ⌝ }
+    ensures { λ r. ⌜ ProductFor n (now (off .entry)) (now (privileged .entry)) (getD (now (required .entry)) i 0) r ⌝ }
+{
+    let c = cube_in(required[i]);
+    let mut p = absorbed(n, off, privileged, c, c);
+    let mut k = i + 1;
+    while k < required.len() {
+        p = grown_over(n, off, privileged, p, cube_in(required[k]));
+        k += 1;
+    }
+    expanded(n, off, privileged, p)
+}
