@@ -27,6 +27,7 @@ pub mod Transition
 pub mod Theorem
 pub mod Verdict
 pub mod Minimal
+pub mod Promise
 -- The set pieces.
 pub mod Essential
 pub mod Pieces

@@ -1,17 +1,19 @@
 -- The minimiser: its refusals, and what its network satisfies.
+use mathlib.Core.Path.{_≡_}
+use mathlib.Core.Logic.{_↔_}
 use mathlib.Core.Bool.{Bool}
 use mathlib.Core.List.{List, [], _∷_, _++_, map, List·Memᴰ}
 use mathlib.Core.Option.{Option, none, some}
 use Prim.Native.Nat.{ℕ, _*_, _≤_, _<_}
 use lib.Dec.{ltb}
-use lib.ListN.{length}
+use lib.ListN.{length, drop}
 use Rattle.hazard.specs.Search.{firstOf}
 use Rattle.hazard.specs.Cube.{Cube}
 use Rattle.hazard.specs.Transition.{off}
 use Rattle.hazard.specs.Sets.{Required, Privileged, required, privileged}
 use Rattle.hazard.specs.Implicant.{DhfPrime}
 use Rattle.hazard.specs.Growth.{Legal, Blocked, grow}
-use Rattle.hazard.specs.Cover.{Network, without, HazardFreeCover}
+use Rattle.hazard.specs.Cover.{Network, WellFormed, without, HazardFreeCover}
 use Rattle.hazard.specs.HazardFree.{HazardFree}
 use Rattle.hazard.specs.Refusal.{Refusal, refuseIf, inputChecks}
 
@@ -44,3 +46,27 @@ pub record Minimal (n : ℕ) (f ts : List ℕ) (net : Network) : Type 0 where
   pub hazardFree : HazardFree n f ts net
   pub irredundant : (j : ℕ) → j < length net → ¬ HazardFree n f ts (without j net)
   pub few : length net ≤ length (required n f ts)
+
+-- The bytes of a network, product after product.
+abbrev pub bytesOf : Network → List ℕ
+bytesOf [] = []
+bytesOf (p ∷ net) = p ++ bytesOf net
+
+-- The minimiser's answer: how many products it wrote, or its refusal.
+pub data Minimised : Type 0 where
+  written : ℕ → Minimised
+  declined : Refusal → Minimised
+
+-- There is no hazard-free network, of any size.
+abbrev pub NoNetwork : ℕ → List ℕ → List ℕ → Type 0
+NoNetwork n f ts = ¬ ((net : Network) × WellFormed n net × HazardFree n f ts net)
+
+-- What the minimiser promises of its answer, and of the buffer before and after.
+pub record Promise (n : ℕ) (f ts before after : List ℕ) (r : Minimised) : Type 0 where
+  -- Refused as the checks say, the first that applies; and then the buffer is unchanged.
+  pub refused : (q : Refusal) → firstOf (minimiserChecks n f ts (length before)) ≡ some q → (r ≡ declined q) × (after ≡ before)
+  -- Not refused: a minimal network, as many products as the answer says, their bytes followed by the buffer's old rest.
+  pub network : firstOf (minimiserChecks n f ts (length before)) ≡ none
+      → (net : Network) × (r ≡ written (length net)) × Minimal n f ts net × (after ≡ bytesOf net ++ drop (n * length net) before)
+  -- Where checks 1 to 9 let it through: refusal 10 exactly if there is no hazard-free network.
+  pub none· : firstOf (inputChecks n f ts ++ (roomCheck n f ts (length before) ∷ [])) ≡ none → ((q : Refusal) × (r ≡ declined q) × (q .number ≡ 10)) ↔ NoNetwork n f ts

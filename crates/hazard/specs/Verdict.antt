@@ -1,4 +1,6 @@
 -- The verifier's verdict (document 01: the marker's).
+use mathlib.Core.Path.{_≡_}
+use mathlib.Core.Logic.{_↔_}
 use mathlib.Core.Bool.{Bool, not, _||_}
 use mathlib.Core.List.{List, [], _∷_, _++_}
 use mathlib.Core.Option.{Option, none, some, Option·map}
@@ -10,7 +12,8 @@ use Rattle.hazard.specs.Cube.{isProduct}
 use Rattle.hazard.specs.Transition.{off}
 use Rattle.hazard.specs.Sets.{Required, Privileged, required, privileged}
 use Rattle.hazard.specs.Implicant.{illegal, lowestZero}
-use Rattle.hazard.specs.Cover.{Network, productAt, covered}
+use Rattle.hazard.specs.Cover.{Network, productAt, covered, HazardFreeCover}
+use Rattle.hazard.specs.HazardFree.{HazardFree}
 use Rattle.hazard.specs.Refusal.{Refusal, refuseIf, inputChecks}
 
 -- A network's bytes, cut into count products of n.
@@ -71,6 +74,15 @@ fault n f ts net = firstFault (faultA n (off f) net) (faultC (privileged n f ts)
 -- The verdict on a network's bytes.
 abbrev pub verdict : ℕ → List ℕ → List ℕ → List ℕ → Verdict
 verdict n f ts bytes = elim (firstOf (verifierChecks n f ts bytes)) [ some r ↦ refused r | none ↦ fault n f ts (products n bytes) ]
+
+-- What the verifier promises of its verdict.
+pub record Verified (n : ℕ) (f ts bytes : List ℕ) (v : Verdict) : Type 0 where
+  -- It is the definition's, for refused input too.
+  pub is : v ≡ verdict n f ts bytes
+  -- Where nothing is refused: passed exactly if conditions (a), (b) and (c) hold,
+  pub covers : firstOf (verifierChecks n f ts bytes) ≡ none → (v ≡ passed) ↔ HazardFreeCover n f ts (products n bytes)
+  -- and exactly if the network is hazard-free.
+  pub hazardFree : firstOf (verifierChecks n f ts bytes) ≡ none → (v ≡ passed) ↔ HazardFree n f ts (products n bytes)
 
 -- The verdict's number and the fields that go back with it. What a verdict does not name is 0.
 pub record Mark : Type 0 where
