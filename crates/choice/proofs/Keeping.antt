@@ -25,7 +25,7 @@ use Rattle.choice.specs.Keep.{neededIn, Noted, Kept}
 use Rattle.choice.proofs.Firsts.{map-take, network-suc, product-in, first-covered, covered-first, place-small, place-is}
 
 -- An entry of a list has a place, and what has a place is an entry.
-index-of : {w : ℕ} {ws : List ℕ} → List·Memᴰ w ws → (i : ℕ) × (i < length ws) × (getD ws i 0 ≡ w)
+pub index-of : {w : ℕ} {ws : List ℕ} → List·Memᴰ w ws → (i : ℕ) × (i < length ws) × (getD ws i 0 ≡ w)
 index-of (List·Memᴰ·head e) = (0, omega arith, sym e)
 index-of (List·Memᴰ·tail m) = let (i, l, e) = index-of m in (suc i, omega arith, e)
 

@@ -127,15 +127,15 @@ module _ (n : ℕ) (c : Cube) (test : ℕ → Bool) (x : ℕ) (l : x < 2 ^ n) (t
   first-miss {y} q e = rw (left (2 ^ n) x l, is {b = has c x} t, e, first, ← add-one x) (first-skip (λ y. has c y && test y) (2 ^ n) (y - (x + 1)) (x + 1) y (omega (arith, q .later)) (gap-fails q))
 
   -- The point itself, if it passes, and those after it.
-  pub those-next : {y : ℕ} → Next n c x y → thoseAhead n c test x ≡ cond (test x) (x ∷ []) [] ++ thoseAhead n c test y
-  those-next {y} q = go (test x) refl
+  pub those-here : thoseAhead n c test x ≡ cond (test x) (x ∷ []) [] ++ thoseAhead n c test (x + 1)
+  those-here = go (test x) refl
     where
-      after : thoseAhead n c test (x + 1) ≡ thoseAhead n c test y
-      after = those-skip (λ y. has c y && test y) (2 ^ n) (y - (x + 1)) (x + 1) y (omega (arith, q .later)) (gap-fails q)
+      go : (b : Bool) → test x ≡ b → thoseAhead n c test x ≡ cond b (x ∷ []) [] ++ thoseAhead n c test (x + 1)
+      go true e = rw (left (2 ^ n) x l, is {b = has c x} t, e, those, ← add-one x)
+      go false e = rw (left (2 ^ n) x l, is {b = has c x} t, e, those, ← add-one x)
 
-      go : (b : Bool) → test x ≡ b → thoseAhead n c test x ≡ cond b (x ∷ []) [] ++ thoseAhead n c test y
-      go true e = rw (left (2 ^ n) x l, is {b = has c x} t, e, those, ← add-one x, after)
-      go false e = rw (left (2 ^ n) x l, is {b = has c x} t, e, those, ← add-one x, after)
+  pub those-next : {y : ℕ} → Next n c x y → thoseAhead n c test x ≡ cond (test x) (x ∷ []) [] ++ thoseAhead n c test y
+  those-next {y} q = those-here ∙ ap (λ (r : List ℕ). cond (test x) (x ∷ []) [] ++ r) (those-skip (λ y. has c y && test y) (2 ^ n) (y - (x + 1)) (x + 1) y (omega (arith, q .later)) (gap-fails q))
 
 pub those-done : (n : ℕ) (c : Cube) (test : ℕ → Bool) (x : ℕ) → 2 ^ n ≤ x → thoseAhead n c test x ≡ []
 those-done n c test x h = rw (sub-eq-zero-of-le h)

@@ -13,7 +13,7 @@ use Rattle.hazard.specs.Search.{first, firstPlace}
 use Rattle.hazard.specs.Cube.{has, span}
 use Rattle.hazard.specs.Transition.{value, start, end, count, Kind, low, rise, fall, high, kindOf, breaks, brokenAt, undefinedAt}
 use Rattle.hazard.specs.Sets.{kindAt, required}
-use Rattle.hazard.specs.Refusal.{refusal, refuseIf, inputChecks, Accepted}
+use Rattle.hazard.specs.Refusal.{refusal, refuseIf, inputsCheck, lengthCheck, listCheck, endsCheck, inputChecks, Accepted}
 use Rattle.hazard.proofs.Test.{tests, T-and, no-or, eqb-of}
 use Rattle.hazard.proofs.Search.{none-some, first-none, place-none, firstOf-none}
 use Rattle.hazard.proofs.Cube.{→has, span-left, span-right}
@@ -22,6 +22,36 @@ use Rattle.hazard.proofs.Cube.{→has, span-left, span-right}
 pub lets : (b : Bool) (number : ℕ) → refuseIf b number ≡ none → ¬ T b
 lets true number e t = none-some (sym e)
 lets false number e t = t
+
+-- What each check says of what it lets through.
+pub inputs-few : (n : ℕ) → inputsCheck n ≡ none → (1 ≤ n) × (n ≤ 10)
+inputs-few n e =
+    let t = no-or (eqb n 0) (ltb 10 n) (lets (eqb n 0 || ltb 10 n) 1 e) in
+    let p : n ≢ 0 = λ e. t .0 (eqb-of e) in
+    let q : ¬ (10 < n) = λ l. t .1 (lt→ltb 10 n l) in (omega arith, omega arith)
+
+pub length-whole : (n : ℕ) (f : List ℕ) → lengthCheck n f ≡ none → length f ≡ 2 ^ n
+length-whole n f e = elim (ℕ-discrete (length f) (2 ^ n)) [ yes q ↦ q | no ne ↦ absurd (lets (not (eqb (length f) (2 ^ n))) 2 e (simp tests ne)) ]
+
+pub list-few : (ts : List ℕ) → listCheck ts ≡ none → (1 ≤ length ts) × (length ts % 2 ≡ 0) × (count ts ≤ 64)
+list-few ts e =
+    let t = no-or (eqb (length ts) 0) (eqb (length ts % 2) 1 || ltb 64 (count ts))
+    (lets (eqb (length ts) 0 || (eqb (length ts % 2) 1 || ltb 64 (count ts))) 4 e) in
+    let u = no-or (eqb (length ts % 2) 1) (ltb 64 (count ts)) (t .1) in
+    let p : length ts ≢ 0 = λ e. t .0 (eqb-of e) in
+    let q : length ts % 2 ≢ 1 = λ e. u .0 (eqb-of e) in
+    let r : ¬ (64 < count ts) = λ l. u .1 (lt→ltb 64 (count ts) l) in
+    (omega arith, omega arith, omega arith)
+
+pub ends-within : (n : ℕ) (ts : List ℕ) → endsCheck n ts ≡ none → (k : ℕ) → k < count ts → (start ts k < 2 ^ n) × (end ts k < 2 ^ n)
+ends-within n ts e k l =
+    let t = first-none (λ j. leb (2 ^ n) (start ts j) || leb (2 ^ n) (end ts j)) 0 (count ts)
+    (map-eq-none-iff (λ j. refusal 5 j 0) (first (λ j. leb (2 ^ n) (start ts j) || leb (2 ^ n) (end ts j)) 0 (count ts)) .0 e)
+    k (omega arith) (omega arith) in
+    let u = no-or (leb (2 ^ n) (start ts k)) (leb (2 ^ n) (end ts k)) t in
+    let p : ¬ (2 ^ n ≤ start ts k) = λ h. u .0 (le→leb (2 ^ n) (start ts k) h) in
+    let q : ¬ (2 ^ n ≤ end ts k) = λ h. u .1 (le→leb (2 ^ n) (end ts k) h) in
+    (omega arith, omega arith)
 
 -- The values at the two ends.
 abbrev pub EndValues : Kind → ℕ → ℕ → Type 0
@@ -53,16 +83,10 @@ module _ (n : ℕ) (f ts : List ℕ) (accepted : Accepted n f ts) where
   passes = firstOf-none (inputChecks n f ts) .0 accepted
 
   pub few-inputs : (1 ≤ n) × (n ≤ 10)
-  few-inputs =
-      let t = no-or (eqb n 0) (ltb 10 n) (lets (eqb n 0 || ltb 10 n) 1 (passes 0)) in
-      let p : n ≢ 0 = λ e. t .0 (eqb-of e) in
-      let q : ¬ (10 < n) = λ l. t .1 (lt→ltb 10 n l) in (omega arith, omega arith)
+  few-inputs = inputs-few n (passes 0)
 
   pub table-length : length f ≡ 2 ^ n
-  table-length = elim (ℕ-discrete (length f) (2 ^ n)) [
-    | yes e ↦ e
-    | no ne ↦ absurd (lets (not (eqb (length f) (2 ^ n))) 2 (passes 1) (simp tests ne))
-  ]
+  table-length = length-whole n f (passes 1)
 
   pub bytes : (x : ℕ) → value f x ≤ 2
   bytes x = elim (decLt x (length f)) [
@@ -76,25 +100,10 @@ module _ (n : ℕ) (f ts : List ℕ) (accepted : Accepted n f ts) where
   ]
 
   pub list-length : (1 ≤ length ts) × (length ts % 2 ≡ 0) × (count ts ≤ 64)
-  list-length =
-      let t = no-or (eqb (length ts) 0) (eqb (length ts % 2) 1 || ltb 64 (count ts))
-      (lets (eqb (length ts) 0 || (eqb (length ts % 2) 1 || ltb 64 (count ts))) 4 (passes 3)) in
-      let u = no-or (eqb (length ts % 2) 1) (ltb 64 (count ts)) (t .1) in
-      let p : length ts ≢ 0 = λ e. t .0 (eqb-of e) in
-      let q : length ts % 2 ≢ 1 = λ e. u .0 (eqb-of e) in
-      let r : ¬ (64 < count ts) = λ l. u .1 (lt→ltb 64 (count ts) l) in
-      (omega arith, omega arith, omega arith)
+  list-length = list-few ts (passes 3)
 
   pub points : (k : ℕ) → k < count ts → (start ts k < 2 ^ n) × (end ts k < 2 ^ n)
-  points k l =
-      let t = first-none (λ j. leb (2 ^ n) (start ts j) || leb (2 ^ n) (end ts j)) 0 (count ts)
-      (map-eq-none-iff (λ j. refusal 5 j 0) (first (λ j. leb (2 ^ n) (start ts j) || leb (2 ^ n) (end ts j)) 0 (count ts)) .0
-      (passes 4))
-      k (omega arith) (omega arith) in
-      let u = no-or (leb (2 ^ n) (start ts k)) (leb (2 ^ n) (end ts k)) t in
-      let p : ¬ (2 ^ n ≤ start ts k) = λ h. u .0 (le→leb (2 ^ n) (start ts k) h) in
-      let q : ¬ (2 ^ n ≤ end ts k) = λ h. u .1 (le→leb (2 ^ n) (end ts k) h) in
-      (omega arith, omega arith)
+  points = ends-within n ts (passes 4)
 
   all-defined : (k : ℕ) → k < count ts → undefinedAt n f (start ts k) (end ts k) ≡ none
   all-defined k l =

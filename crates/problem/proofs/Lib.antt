@@ -1,0 +1,4 @@
+pub mod Coded
+pub mod Gather
+pub mod Checks
+pub mod Off

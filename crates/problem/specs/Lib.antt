@@ -1,1 +1,4 @@
 pub mod Answer
+pub mod Codes
+pub mod Ready
+pub mod Store

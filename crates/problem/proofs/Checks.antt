@@ -1,0 +1,62 @@
+-- What the checks say, one after another, and what an accepted problem gives.
+use mathlib.Core.Path.{_≡_, refl, sym, ap, _∙_}
+use mathlib.Core.Bool.{Bool, true, false}
+use mathlib.Core.List.{List, [], _∷_}
+use mathlib.Core.Option.{Option, none, some}
+use Prim.Native.Nat.{ℕ, _+_, _*_, _/_, _%_, _^_, _≤_, _<_}
+use native.Mathlib.Omega.{arith}
+use native.Mathlib.Decide.{ℕ-discrete, decLt}
+use lib.Dec.{T}
+use lib.ListN.{length, getD, List·getD-eq-default}
+use lib.Pow.{pow-pos}
+use Rattle.hazard.specs.Search.{firstOf}
+use Rattle.hazard.specs.Transition.{start, end, count}
+use Rattle.hazard.specs.Refusal as spec
+use Rattle.hazard.proofs.Rules.{few-inputs, table-length, list-length, points}
+use Rattle.problem.specs.Answer.{refusalOf, checkedOf}
+use Rattle.problem.specs.Ready.{Ready}
+use Rattle.problem.specs.declared.refusal.Refusal.{Refusal}
+use Rattle.problem.specs.declared.refusal.Checked.{Checked}
+use Rattle.problem.specs.declared.refusal.Checked.the-variants.{Accepted, Refused}
+
+-- A check by a test.
+pub refuse-yes : (b : Bool) (number : ℕ) → T b → some (spec.refusal number 0 0) ≡ spec.refuseIf b number
+refuse-yes true number t = refl
+refuse-yes false number t = absurd t
+
+pub refuse-no : (b : Bool) (number : ℕ) → ¬ T b → none ≡ spec.refuseIf b number
+refuse-no true number t = absurd (t tt)
+refuse-no false number t = refl
+
+-- The first check of several refuses, or lets through.
+module _ {x : Checked} {o : Option spec.Refusal} (e : checkedOf x ≡ o) where
+  pub passed : x ≡ Accepted → o ≡ none
+  passed q = sym e ∙ ap checkedOf q
+
+  pub first-refused : {r : Refusal} → x ≡ Refused r → (l : List (Option spec.Refusal)) → checkedOf (Refused r) ≡ firstOf (o ∷ l)
+  first-refused q l = let h = sym (ap checkedOf q) ∙ e in rw (← h)
+
+  pub first-passed : x ≡ Accepted → {p : Option spec.Refusal} (l : List (Option spec.Refusal)) → p ≡ firstOf l → p ≡ firstOf (o ∷ l)
+  first-passed q l h = rw (passed q) h
+
+-- A last check.
+pub only : {p o : Option spec.Refusal} → p ≡ o → p ≡ firstOf (o ∷ [])
+only {o = none} e = e
+only {o = some r} e = e
+
+-- What an accepted problem gives to the code that builds the sets.
+pub ready : (n : ℕ) (f ts : List ℕ) → n ≤ 10 → length f ≡ 2 ^ n → length ts % 2 ≡ 0 → count ts ≤ 64
+    → ((k : ℕ) → k < count ts → (start ts k < 2 ^ n) × (end ts k < 2 ^ n)) → Ready n f ts
+ready n f ts h e even few inside = record { small = h; whole = e; few = few; within = within }
+  where
+    within : (i : ℕ) → getD ts i 0 < 2 ^ n
+    within i = elim (decLt i (length ts)) [
+      | no l ↦ let d = List·getD-eq-default ts 0 {n = i} (omega arith) in omega (arith, pow-pos n)
+      | yes l ↦ elim (ℕ-discrete (i % 2) 0) [
+        | yes q ↦ let d : 2 * (i / 2) ≡ i = omega arith in rw d at (inside (i / 2) (omega arith) .0)
+        | no q ↦ let d : 2 * (i / 2) + 1 ≡ i = omega arith in rw d at (inside (i / 2) (omega arith) .1)
+      ]
+    ]
+
+pub accepted-ready : (n : ℕ) (f ts : List ℕ) → spec.Accepted n f ts → Ready n f ts
+accepted-ready n f ts a = ready n f ts (few-inputs n f ts a .1) (table-length n f ts a) (list-length n f ts a .1) (list-length n f ts a .2) (points n f ts a)

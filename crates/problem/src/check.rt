@@ -1,0 +1,203 @@
+// The input rules: checks 1 to 8, in their order.
+ghost use mathlib.Core.Path.{_≡_};
+ghost use mathlib.Core.Bool.{_||_};
+ghost use mathlib.Core.Option.{some};
+ghost use Prim.Native.Nat.{ℕ, _≤_, _<_, _^_, _%_};
+ghost use lib.Dec.{leb};
+ghost use lib.ListN.{length};
+ghost use Rattle.hazard.specs.Search.{firstOf};
+ghost use Rattle.hazard.specs.Transition.{count};
+ghost use Rattle.hazard.specs.Refusal.{refusal, inputsCheck, lengthCheck, bytesCheck, listCheck, endsCheck, definedCheck, rulesCheck, manyCheck, inputChecks};
+ghost use Rattle.problem.specs.Answer.{checkedOf, senseChecks, transitionChecks};
+ghost use Rattle.problem.specs.Ready.{Ready};
+use crate::refusal::Checked;
+use crate::refusal::refuse;
+use crate::required::count_required;
+use crate::scan::Found;
+use crate::scan::broken_at;
+use crate::scan::undefined_at;
+use crate::transition::end_of;
+use crate::transition::start_of;
+
+// A refusal as what a check says.
+fn refused(number: u16, transition: u16, point: u16) -> Checked
+    ensures { λ r. ⌜ checkedOf r ≡ some (refusal number transition point) ⌝ }
+{
+    Checked::Refused(refuse(number, transition, point))
+}
+
+// 1: n is 0 or above 10.
+fn check_inputs(n: usize) -> Checked
+    ensures { λ r. ⌜ checkedOf r ≡ inputsCheck n ⌝ }
+{
+    if n == 0 {
+        return refused(1, 0, 0);
+    }
+    if 10 < n {
+        return refused(1, 0, 0);
+    }
+    Checked::Accepted
+}
+
+// 2: the table's length is not 2^n.
+fn check_length(n: usize, table: &[u8]) -> Checked
+    requires { ⌜ n ≤ 10 ⌝ }
+    ensures { λ r. ⌜ checkedOf r ≡ lengthCheck n (now (table .entry)) ⌝ }
+{
+    let points = (1u16 << n) as usize;
+    if table.len() == points {
+        return Checked::Accepted;
+    }
+    refused(2, 0, 0)
+}
+
+// 3: a table byte above 2; the lowest such point.
+fn check_bytes(table: &[u8]) -> Checked
+    requires { ⌜ length (now table) ≤ 1024 ⌝ }
+    ensures { λ r. ⌜ checkedOf r ≡ bytesCheck (now (table .entry)) ⌝ }
+{
+    let mut x = 0;
+    while x < table.len() {
+        if 2 < table[x] {
+            return refused(3, 0, x as u16);
+        }
+        x += 1;
+    }
+    Checked::Accepted
+}
+
+// 4: the list is empty, odd, or above 64 transitions.
+fn check_list(transitions: &[u16]) -> Checked
+    ensures { λ r. ⌜ checkedOf r ≡ listCheck (now (transitions .entry)) ⌝ }
+{
+    let size = transitions.len();
+    if size == 0 {
+        return refused(4, 0, 0);
+    }
+    if size % 2 == 1 {
+        return refused(4, 0, 0);
+    }
+    if 64 < size / 2 {
+        return refused(4, 0, 0);
+    }
+    Checked::Accepted
+}
+
+// One of the two is no point.
+fn is_outside(n: usize, a: u16, b: u16) -> bool
+    requires { ⌜ n ≤ 10 ⌝ }
+    ensures { λ r. ⌜ r ≡ (leb (2 ^ n) a || leb (2 ^ n) b) ⌝ }
+{
+    let points = 1u16 << n;
+    if points <= a {
+        return true;
+    }
+    points <= b
+}
+
+// 5: an end that is no point; the first such transition.
+fn check_ends(n: usize, transitions: &[u16]) -> Checked
+    requires { ⌜ (n ≤ 10) × (count (now transitions) ≤ 64) ⌝ }
+    ensures { λ r. ⌜ checkedOf r ≡ endsCheck n (now (transitions .entry)) ⌝ }
+{
+    let count = transitions.len() / 2;
+    let mut t = 0;
+    while t < count {
+        if is_outside(n, start_of(transitions, t), end_of(transitions, t)) {
+            return refused(5, t as u16, 0);
+        }
+        t += 1;
+    }
+    Checked::Accepted
+}
+
+// 6: a don't care in some [A,B]; the first such transition, the lowest point.
+fn check_defined(n: usize, table: &[u8], transitions: &[u16]) -> Checked
+    requires { ⌜ Ready n (now table) (now transitions) ⌝ }
+    ensures { λ r. ⌜ checkedOf r ≡ definedCheck n (now (table .entry)) (now (transitions .entry)) ⌝ }
+{
+    let count = transitions.len() / 2;
+    let mut t = 0;
+    while t < count {
+        let a = start_of(transitions, t);
+        let b = end_of(transitions, t);
+        if let Found::At(x) = undefined_at(n, table, a, b) {
+            return refused(6, t as u16, x);
+        }
+        t += 1;
+    }
+    Checked::Accepted
+}
+
+// 7: the rule of the kind is broken; the first such transition, the lowest point.
+fn check_rules(n: usize, table: &[u8], transitions: &[u16]) -> Checked
+    requires { ⌜ Ready n (now table) (now transitions) ⌝ }
+    ensures { λ r. ⌜ checkedOf r ≡ rulesCheck n (now (table .entry)) (now (transitions .entry)) ⌝ }
+{
+    let count = transitions.len() / 2;
+    let mut t = 0;
+    while t < count {
+        let a = start_of(transitions, t);
+        let b = end_of(transitions, t);
+        if let Found::At(x) = broken_at(n, table, a, b) {
+            return refused(7, t as u16, x);
+        }
+        t += 1;
+    }
+    Checked::Accepted
+}
+
+// 8: more than 2,048 required cubes.
+fn check_many(n: usize, table: &[u8], transitions: &[u16]) -> Checked
+    requires { ⌜ Ready n (now table) (now transitions) ⌝ }
+    ensures { λ r. ⌜ checkedOf r ≡ manyCheck n (now (table .entry)) (now (transitions .entry)) ⌝ }
+{
+    if 2048 < count_required(n, table, transitions) {
+        return refused(8, 0, 0);
+    }
+    Checked::Accepted
+}
+
+// Checks 6 to 8: what needs a table and transitions between its points.
+fn check_sense(n: usize, table: &[u8], transitions: &[u16]) -> Checked
+    requires { ⌜ Ready n (now table) (now transitions) ⌝ }
+    ensures { λ r. ⌜ checkedOf r ≡ firstOf (senseChecks n (now (table .entry)) (now (transitions .entry))) ⌝ }
+{
+    if let Checked::Refused(r) = check_defined(n, table, transitions) {
+        return Checked::Refused(r);
+    }
+    if let Checked::Refused(r) = check_rules(n, table, transitions) {
+        return Checked::Refused(r);
+    }
+    check_many(n, table, transitions)
+}
+
+// Checks 4 to 8: what needs a table of 2^n points.
+fn check_transitions(n: usize, table: &[u8], transitions: &[u16]) -> Checked
+    requires { ⌜ (n ≤ 10) × (length (now table) ≡ 2 ^ n) ⌝ }
+    ensures { λ r. ⌜ checkedOf r ≡ firstOf (transitionChecks n (now (table .entry)) (now (transitions .entry))) ⌝ }
+{
+    if let Checked::Refused(r) = check_list(transitions) {
+        return Checked::Refused(r);
+    }
+    if let Checked::Refused(r) = check_ends(n, transitions) {
+        return Checked::Refused(r);
+    }
+    check_sense(n, table, transitions)
+}
+
+// The input rules. Nothing is asked of what comes in.
+pub fn check(n: usize, table: &[u8], transitions: &[u16]) -> Checked
+    ensures { λ r. ⌜ checkedOf r ≡ firstOf (inputChecks n (now (table .entry)) (now (transitions .entry))) ⌝ }
+{
+    if let Checked::Refused(r) = check_inputs(n) {
+        return Checked::Refused(r);
+    }
+    if let Checked::Refused(r) = check_length(n, table) {
+        return Checked::Refused(r);
+    }
+    if let Checked::Refused(r) = check_bytes(table) {
+        return Checked::Refused(r);
+    }
+    check_transitions(n, table, transitions)
+}
