@@ -1,2 +1,3 @@
 pub mod Products
 pub mod Writing
+pub mod Selecting

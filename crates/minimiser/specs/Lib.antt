@@ -1,2 +1,3 @@
 pub mod Product
 pub mod Choose
+pub mod Select

@@ -1,4 +1,5 @@
 // The minimiser: a hazard-free network for a table and its transitions, or why there is none.
 pub mod choose;
 pub mod product;
+pub mod select;
 pub mod write;
