@@ -153,6 +153,17 @@ pub firstOf-one : {A : Type 0} (o : Option A) → firstOf (o ∷ []) ≡ o
 firstOf-one none = refl
 firstOf-one (some a) = refl
 
+-- Of two lists of searches, the second counts where the first finds nothing.
+pub firstOf-left : {A : Type 0} (l m : List (Option A)) {a : A} → firstOf l ≡ some a → firstOf (l ++ m) ≡ some a
+firstOf-left [] m e = none-some e
+firstOf-left (none ∷ l) m e = firstOf-left l m e
+firstOf-left (some b ∷ l) m e = e
+
+pub firstOf-right : {A : Type 0} (l m : List (Option A)) → firstOf l ≡ none → firstOf (l ++ m) ≡ firstOf m
+firstOf-right [] m e = refl
+firstOf-right (none ∷ l) m e = firstOf-right l m e
+firstOf-right (some b ∷ l) m e = none-some (sym e)
+
 -- Two lists of searches find nothing exactly if each finds nothing.
 pub firstOf-append : {A : Type 0} (l m : List (Option A)) → (firstOf (l ++ m) ≡ none) ↔ ((firstOf l ≡ none) × (firstOf m ≡ none))
 firstOf-append [] m = (λ e. (refl, e), λ e. e .1)

@@ -1,6 +1,7 @@
 -- What the checks say, one after another, and what an accepted problem gives.
 use mathlib.Core.Path.{_≡_, refl, sym, ap, _∙_}
-use mathlib.Core.Bool.{Bool, true, false}
+use mathlib.Core.Logic.{inl, inr}
+use mathlib.Core.Bool.{Bool, true, false, _||_}
 use mathlib.Core.List.{List, [], _∷_}
 use mathlib.Core.Option.{Option, none, some}
 use Prim.Native.Nat.{ℕ, _+_, _*_, _/_, _%_, _^_, _≤_, _<_}
@@ -12,12 +13,23 @@ use lib.Pow.{pow-pos}
 use Rattle.hazard.specs.Search.{firstOf}
 use Rattle.hazard.specs.Transition.{start, end, count}
 use Rattle.hazard.specs.Refusal as spec
+use Rattle.hazard.proofs.Test.{or-e}
 use Rattle.hazard.proofs.Rules.{few-inputs, table-length, list-length, points}
 use Rattle.problem.specs.Answer.{refusalOf, checkedOf}
 use Rattle.problem.specs.Ready.{Ready}
 use Rattle.problem.specs.declared.refusal.Refusal.{Refusal}
 use Rattle.problem.specs.declared.refusal.Checked.{Checked}
 use Rattle.problem.specs.declared.refusal.Checked.the-variants.{Accepted, Refused}
+
+-- One of two tests, and neither.
+pub or-true : (a b : Bool) → a ≡ true → (a || b) ≡ true
+or-true a b e = rw e
+
+pub or-false : (a b : Bool) → a ≡ false → (a || b) ≡ b
+or-false a b e = rw e
+
+pub neither : (a b : Bool) → ¬ T a → ¬ T b → ¬ T (a || b)
+neither a b p q t = elim (or-e a b t) [ inl u ↦ p u | inr u ↦ q u ]
 
 -- A check by a test.
 pub refuse-yes : (b : Bool) (number : ℕ) → T b → some (spec.refusal number 0 0) ≡ spec.refuseIf b number
@@ -32,6 +44,9 @@ refuse-no false number t = refl
 module _ {x : Checked} {o : Option spec.Refusal} (e : checkedOf x ≡ o) where
   pub passed : x ≡ Accepted → o ≡ none
   passed q = sym e ∙ ap checkedOf q
+
+  pub refused-by : {r : Refusal} → x ≡ Refused r → some (refusalOf r) ≡ o
+  refused-by q = ap checkedOf (sym q) ∙ e
 
   pub first-refused : {r : Refusal} → x ≡ Refused r → (l : List (Option spec.Refusal)) → checkedOf (Refused r) ≡ firstOf (o ∷ l)
   first-refused q l = let h = sym (ap checkedOf q) ∙ e in rw (← h)

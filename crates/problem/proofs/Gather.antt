@@ -8,7 +8,7 @@ use native.Mathlib.Numerals.{add-one}
 use native.Mathlib.Omega.{arith}
 use native.Mathlib.Decide.{ℕ-discrete}
 use lib.Dec.{T}
-use lib.ListN.{length, getD, take, set, length-append, length-set, length-map}
+use lib.ListN.{length, take, set, length-append, length-set, length-map}
 use lib.Pow.{pow-mono, pow-pos}
 use lib.Seq.{take-suc-set, getD-set-same, getD-set-other}
 use Rattle.hazard.specs.Search.{those}

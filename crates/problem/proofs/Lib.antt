@@ -1,4 +1,5 @@
 pub mod Coded
+pub mod Word
 pub mod Gather
 pub mod Checks
 pub mod Off

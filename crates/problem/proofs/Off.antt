@@ -12,7 +12,7 @@ use Rattle.hazard.specs.Cube.{bit}
 use Rattle.hazard.specs.Transition.{value, off}
 use Rattle.hazard.proofs.Point.{bit-zero, bit-suc}
 use Rattle.cube.specs.PointSet.{inSet}
-use Rattle.problem.specs.Ready.{offWord}
+use Rattle.problem.specs.OffWord.{offWord}
 use Rattle.problem.proofs.Gather.{one-few}
 
 pub off-none : (f : List ℕ) (x : ℕ) → 0 ≡ offWord f x 0

@@ -1,7 +1,6 @@
 -- Entries stored in lent words.
 use mathlib.Core.Path.{_≡_}
-use mathlib.Core.Bool.{cond}
-use mathlib.Core.List.{List, [], _∷_, _++_, map}
+use mathlib.Core.List.{List, _++_, map}
 use Prim.Native.Nat.{ℕ, _+_, _<_}
 use lib.ListN.{length, getD, take}
 use Rattle.hazard.specs.Cube.{span}

@@ -1,12 +1,12 @@
 // The labels of the required cubes, counted.
 ghost use mathlib.Core.Path.{_≡_};
 ghost use mathlib.Core.Bool.{cond};
-ghost use Prim.Native.Nat.{ℕ, _≤_, _<_, _^_};
+ghost use Prim.Native.Nat.{_≤_, _<_, _^_};
 ghost use lib.ListN.{length};
 ghost use Rattle.hazard.specs.Search.{those};
 ghost use Rattle.hazard.specs.Sets.{last, labels};
 ghost use Rattle.problem.specs.Codes.{kindIs};
-ghost use Rattle.problem.specs.Ready.{isLabel};
+ghost use Rattle.problem.specs.Label.{isLabel};
 use crate::further::goes_further;
 use crate::kind::Kind;
 use cube::mask::span_of;

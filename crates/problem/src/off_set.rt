@@ -5,7 +5,7 @@ ghost use Prim.Native.Nat.{ℕ, _+_, _≤_, _<_};
 ghost use lib.ListN.{length};
 ghost use Rattle.hazard.specs.Transition.{off};
 ghost use Rattle.cube.specs.PointSet.{inSet};
-ghost use Rattle.problem.specs.Ready.{offWord};
+ghost use Rattle.problem.specs.OffWord.{offWord};
 
 // 1 where the value at x is 0, and 0 elsewhere.
 fn off_bit(table: &[u8], x: usize) -> u64

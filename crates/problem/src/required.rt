@@ -2,12 +2,13 @@
 ghost use mathlib.Core.Path.{_≡_};
 ghost use mathlib.Core.Bool.{cond};
 ghost use mathlib.Core.List.{[], _∷_, map};
-ghost use Prim.Native.Nat.{ℕ, _+_, _≤_, _<_, _^_};
+ghost use Prim.Native.Nat.{_+_, _≤_, _<_, _^_};
 ghost use lib.ListN.{length};
 ghost use Rattle.hazard.specs.Search.{those};
 ghost use Rattle.hazard.specs.Sets.{last, required};
 ghost use Rattle.cube.specs.Entry.{requiredIn};
-ghost use Rattle.problem.specs.Ready.{Ready, isLabel};
+ghost use Rattle.problem.specs.Label.{isLabel};
+ghost use Rattle.problem.specs.Ready.{Ready};
 ghost use Rattle.problem.specs.Store.{Stored, Held, requiredTo, requiredFor};
 use crate::kind::Kind;
 use crate::kind::kind_of;

@@ -1,6 +1,6 @@
 // The lowest point of a transition cube that is don't care, or where the rule of the kind is broken.
 ghost use mathlib.Core.Path.{_≡_};
-ghost use Prim.Native.Nat.{ℕ, _≤_, _<_, _^_};
+ghost use Prim.Native.Nat.{_≤_, _<_, _^_};
 ghost use lib.ListN.{length};
 ghost use Rattle.hazard.specs.Transition.{turnsBack, breaks, undefinedAt, brokenAt};
 ghost use Rattle.problem.specs.Codes.{kindIs, foundOf};

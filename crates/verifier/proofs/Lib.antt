@@ -1,3 +1,5 @@
 pub mod Bytes
 pub mod Reading
 pub mod Looks
+pub mod Judging
+pub mod Verifying

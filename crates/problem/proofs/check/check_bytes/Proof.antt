@@ -1,4 +1,4 @@
-use mathlib.Core.Path.{_≡_, sym, ap, ap₂, _∙_}
+use mathlib.Core.Path.{ap, _∙_}
 use mathlib.Core.Option.{Option·map}
 use Prim.Native.Nat.{_-_}
 use native.Mathlib.Omega.{arith}

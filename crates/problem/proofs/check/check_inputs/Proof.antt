@@ -1,10 +1,9 @@
-use mathlib.Core.Path.{_≡_, sym, ap, ap₂, _∙_}
+use mathlib.Core.Path.{_∙_}
 use mathlib.Core.Bool.{_||_}
 use native.Mathlib.Omega.{arith}
 use lib.Dec.{eqb, ltb, eqb→eq, lt→ltb, ltb→lt}
 use Rattle.hazard.proofs.Test.{or-l, or-r, eqb-of}
-use Rattle.problem.proofs.Coded.{neither}
-use Rattle.problem.proofs.Checks.{refuse-yes, refuse-no}
+use Rattle.problem.proofs.Checks.{neither, refuse-yes, refuse-no}
 use borrow.Author.Needs.{needs}
 use Rattle.problem.proofs.check.check_inputs.Statement.{statement}
 use Rattle.problem.proofs.check.check_inputs.Tie as tie

@@ -1,4 +1,4 @@
-use mathlib.Core.Path.{_≡_, sym, ap, ap₂, _∙_}
+use mathlib.Core.Path.{_≡_, _∙_}
 use mathlib.Core.Bool.{not}
 use Prim.Native.Nat.{_^_}
 use native.Mathlib.Omega.{arith}

@@ -1,4 +1,3 @@
-use mathlib.Core.Path.{_≡_, refl, sym, ap, ap₂, _∙_}
 use mathlib.Core.List.{_∷_}
 use Rattle.hazard.specs.Refusal.{endsCheck}
 use Rattle.hazard.proofs.Rules.{list-few, ends-within}

@@ -1,10 +1,10 @@
-use mathlib.Core.Path.{_≡_, sym, ap, ap₂, _∙_}
+use mathlib.Core.Path.{sym, ap, _∙_}
 use Prim.Native.Nat.{ℕ, _^_}
 use native.Mathlib.Omega.{arith}
 use lib.Dec.{leb}
 use borrow.Author.Tests.{le-leb, lt-leb}
 use Rattle.cube.proofs.Bits.{one-shl}
-use Rattle.problem.proofs.Coded.{or-true, or-false}
+use Rattle.problem.proofs.Checks.{or-true, or-false}
 use borrow.Author.Needs.{needs}
 use Rattle.problem.proofs.check.is_outside.Statement.{statement}
 use Rattle.problem.proofs.check.is_outside.Tie as tie

@@ -1,4 +1,3 @@
-use mathlib.Core.Path.{_≡_, sym, ap, ap₂, _∙_}
 use Prim.Native.Nat.{_-_, _^_, _<_}
 use native.Mathlib.Omega.{arith}
 use lib.ListN.{length}
@@ -6,7 +5,7 @@ use lib.Pow.{pow-mono}
 use Rattle.hazard.specs.Search.{those}
 use Rattle.hazard.specs.Sets.{last}
 use Rattle.cube.specs.Mask.{cubeOf, Clean}
-use Rattle.problem.specs.Ready.{isLabel}
+use Rattle.problem.specs.Label.{isLabel}
 use Rattle.problem.proofs.Gather.{Tally, tally-start, tally-more, tally-end, those-few, one-few}
 use borrow.Author.Needs.{needs}
 use Rattle.problem.proofs.label.count_between.Statement.{statement}

@@ -1,7 +1,9 @@
-use mathlib.Core.Path.{_≡_, refl, sym, ap, ap₂, _∙_}
+use mathlib.Core.Path.{_≡_, sym, ap, _∙_}
+use mathlib.Core.List.{List}
+use Prim.Native.Nat.{ℕ}
 use lib.ListN.{length}
-use Rattle.hazard.specs.Transition.{Kind}
 use Rattle.hazard.specs.Sets.{labels}
+use Rattle.problem.specs.declared.kind.Kind.{Kind}
 use Rattle.problem.specs.Codes.{kindIs}
 use borrow.Author.Needs.{needs}
 use Rattle.problem.proofs.label.count_labels.Statement.{statement}
@@ -28,11 +30,15 @@ enum-told-4 c = search needs
 returns : tie.Need-returns
 returns c = search needs
 
+-- The labels of the kind that was matched.
+known : (n : ℕ) (f : List ℕ) (a b : ℕ) {k j : Kind} → k ≡ j → length (labels n f (kindIs j) a b) ≡ length (labels n f (kindIs k) a b)
+known n f a b e = ap (λ k. length (labels n f (kindIs k) a b)) (sym e)
+
 returns-2 : tie.Need-returns-2
-returns-2 c = let a = c .before .before .before .before .args in c .count-between .ensures ∙ ap (λ k. length (labels (a .n) (a .table .now) (kindIs k) (a .a) (a .b))) (sym (c .before .enum-told2 .given .1))
+returns-2 c = let a = c .before .before .before .before .args in c .count-between .ensures ∙ known (a .n) (a .table .now) (a .a) (a .b) (c .before .enum-told2 .given .1)
 
 returns-3 : tie.Need-returns-3
-returns-3 c = let a = c .before .before .before .before .args in c .count-between2 .ensures ∙ ap (λ k. length (labels (a .n) (a .table .now) (kindIs k) (a .a) (a .b))) (sym (c .before .enum-told3 .given .1))
+returns-3 c = let a = c .before .before .before .before .args in c .count-between2 .ensures ∙ known (a .n) (a .table .now) (a .a) (a .b) (c .before .enum-told3 .given .1)
 
 returns-4 : tie.Need-returns-4
 returns-4 c = search needs

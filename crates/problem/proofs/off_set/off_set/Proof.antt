@@ -1,11 +1,11 @@
-use mathlib.Core.Path.{_≡_, refl, sym, ap, ap₂, _∙_}
+use mathlib.Core.Path.{_≡_, _∙_}
 use mathlib.Core.Path.{subst⁻¹}
 use Prim.Native.Nat.{ℕ, _-_, _*_, _≤_, _<_}
 use native.Mathlib.Omega.{arith}
 use native.Mathlib.Decide.{ℕ-discrete}
 use lib.ListN.{length, getD, set, length-set}
 use lib.Seq.{getD-set-same, getD-set-other}
-use Rattle.problem.specs.Ready.{offWord}
+use Rattle.problem.specs.OffWord.{offWord}
 use Rattle.problem.proofs.Off.{off-is}
 use borrow.Author.Needs.{needs}
 use Rattle.problem.proofs.off_set.off_set.Statement.{statement}

@@ -1,9 +1,9 @@
-use mathlib.Core.Path.{_≡_, refl, sym, ap, ap₂, _∙_}
+use mathlib.Core.Path.{_≡_, _∙_}
 use Prim.Native.Nat.{_+_, _-_, _≤_}
 use native.Mathlib.Omega.{arith}
 use lib.Pow.{pow-mono}
 use Rattle.hazard.specs.Transition.{off}
-use Rattle.problem.specs.Ready.{offWord}
+use Rattle.problem.specs.OffWord.{offWord}
 use Rattle.problem.proofs.Gather.{one-few}
 use Rattle.problem.proofs.Off.{off-none, off-lt, off-step}
 use borrow.Author.Needs.{needs}

@@ -1,14 +1,11 @@
-use mathlib.Core.Path.{_≡_, refl, sym, ap, ap₂, _∙_}
-use mathlib.Core.Bool.{true}
+use mathlib.Core.Path.{_≡_, sym, ap, _∙_}
 use Prim.Native.Nat.{ℕ, _<_, _^_}
 use native.Mathlib.Omega.{arith}
-use lib.ListN.{length-set}
 use Rattle.hazard.specs.Cube.{span}
 use Rattle.hazard.specs.Transition.{kind}
-use Rattle.hazard.specs.Sets.{Privileged, dynamic, startPoint}
-use Rattle.problem.specs.Codes.{kindIs}
+use Rattle.hazard.specs.Sets.{dynamic, startPoint}
 use Rattle.problem.specs.Store.{privilegedFor}
-use Rattle.problem.proofs.Coded.{word-privileged, word-clean}
+use Rattle.problem.proofs.Word.{word-privileged, word-clean}
 use Rattle.problem.proofs.Gather.{start-lt, stored-one, stored-yes, stored-no}
 use borrow.Author.Needs.{needs}
 use Rattle.problem.proofs.privileged.store_privileged.Statement.{statement}

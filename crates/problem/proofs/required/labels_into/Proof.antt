@@ -1,6 +1,6 @@
-use mathlib.Core.Path.{_≡_, refl, sym, ap, ap₂, _∙_}
+use mathlib.Core.Path.{_≡_, refl, _∙_}
 use mathlib.Core.List.{map}
-use Prim.Native.Nat.{_+_, _-_, _^_, _<_, _≤_}
+use Prim.Native.Nat.{_-_, _^_, _<_}
 use native.Mathlib.Omega.{arith}
 use lib.ListN.{length, length-map}
 use lib.Pow.{pow-mono}
@@ -8,7 +8,7 @@ use Rattle.hazard.specs.Search.{those}
 use Rattle.hazard.specs.Sets.{last}
 use Rattle.cube.specs.Mask.{cubeOf, Clean}
 use Rattle.cube.specs.Entry.{requiredIn}
-use Rattle.problem.specs.Ready.{isLabel}
+use Rattle.problem.specs.Label.{isLabel}
 use Rattle.problem.specs.Store.{requiredTo}
 use Rattle.problem.proofs.Gather.{Walked, walked-start, walked-room, walked-more, walked-end}
 use borrow.Author.Needs.{needs}

@@ -1,6 +1,4 @@
-use mathlib.Core.Path.{_≡_, refl, sym, ap, ap₂, _∙_}
-use lib.ListN.{length-set}
-use Rattle.problem.proofs.Coded.{word-required, word-clean}
+use Rattle.problem.proofs.Word.{word-required, word-clean}
 use Rattle.problem.proofs.Gather.{stored-one}
 use borrow.Author.Needs.{needs}
 use Rattle.problem.proofs.required.store.Statement.{statement}

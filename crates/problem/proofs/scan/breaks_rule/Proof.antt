@@ -1,6 +1,9 @@
 use mathlib.Core.Path.{_≡_, sym, ap, _∙_}
+use mathlib.Core.List.{List}
+use Prim.Native.Nat.{ℕ}
 use native.Mathlib.Omega.{arith}
 use Rattle.hazard.specs.Transition.{breaks}
+use Rattle.problem.specs.declared.kind.Kind.{Kind}
 use Rattle.problem.specs.Codes.{kindIs}
 use Rattle.problem.proofs.Coded.{read-is}
 use borrow.Author.Needs.{needs}
@@ -31,17 +34,21 @@ enum-told-4 c = search needs
 shared-slice-read-result-2 : tie.Need-shared-slice-read-result-2
 shared-slice-read-result-2 c = search needs
 
+-- The rule of the kind that was matched.
+known : (n : ℕ) (f : List ℕ) (a b x : ℕ) {k j : Kind} → k ≡ j → breaks n f (kindIs j) a b x ≡ breaks n f (kindIs k) a b x
+known n f a b x e = ap (λ k. breaks n f (kindIs k) a b x) (sym e)
+
 returns : tie.Need-returns
-returns c = let a = c .before .before .before .before .args in read-is (a .table .now) (a .x) 1 (omega arith) ∙ ap (λ k. breaks (a .n) (a .table .now) (kindIs k) (a .a) (a .b) (a .x)) (sym (c .before .enum-told .given .1))
+returns c = let a = c .before .before .before .before .args in read-is (a .table .now) (a .x) 1 (omega arith) ∙ known (a .n) (a .table .now) (a .a) (a .b) (a .x) (c .before .enum-told .given .1)
 
 returns-2 : tie.Need-returns-2
-returns-2 c = let a = c .before .before .before .before .args in c .turns-back .ensures ∙ ap (λ k. breaks (a .n) (a .table .now) (kindIs k) (a .a) (a .b) (a .x)) (sym (c .before .enum-told2 .given .1))
+returns-2 c = let a = c .before .before .before .before .args in c .turns-back .ensures ∙ known (a .n) (a .table .now) (a .a) (a .b) (a .x) (c .before .enum-told2 .given .1)
 
 returns-3 : tie.Need-returns-3
-returns-3 c = let a = c .before .before .before .before .args in c .turns-back2 .ensures ∙ ap (λ k. breaks (a .n) (a .table .now) (kindIs k) (a .a) (a .b) (a .x)) (sym (c .before .enum-told3 .given .1))
+returns-3 c = let a = c .before .before .before .before .args in c .turns-back2 .ensures ∙ known (a .n) (a .table .now) (a .a) (a .b) (a .x) (c .before .enum-told3 .given .1)
 
 returns-4 : tie.Need-returns-4
-returns-4 c = let a = c .before .before .before .before .args in read-is (a .table .now) (a .x) 0 (omega arith) ∙ ap (λ k. breaks (a .n) (a .table .now) (kindIs k) (a .a) (a .b) (a .x)) (sym (c .before .enum-told4 .given .1))
+returns-4 c = let a = c .before .before .before .before .args in read-is (a .table .now) (a .x) 0 (omega arith) ∙ known (a .n) (a .table .now) (a .a) (a .b) (a .x) (c .before .enum-told4 .given .1)
 
 pub breaks-rule-spec : {M : Type 1} → statement M
 breaks-rule-spec =

@@ -1,10 +1,7 @@
-use mathlib.Core.Path.{_≡_, sym, ap, _∙_}
-use mathlib.Core.Bool.{_&&_}
+use mathlib.Core.Path.{sym, _∙_}
 use Prim.Native.Nat.{_-_, _^_, _<_}
 use native.Mathlib.Omega.{arith}
 use lib.Pow.{pow-mono}
-use Rattle.hazard.specs.Search.{first}
-use Rattle.hazard.specs.Cube.{has, span}
 use Rattle.hazard.specs.Transition.{breaks, brokenAt}
 use Rattle.cube.specs.Mask.{cubeOf, Clean}
 use Rattle.cube.proofs.Scan.{Points, points-start, points-hit, points-miss, points-end}

@@ -1,0 +1,49 @@
+// The first fault of a network that is not refused.
+ghost use mathlib.Core.Path.{_≡_};
+ghost use Prim.Native.Nat.{_≤_};
+ghost use lib.ListN.{length};
+ghost use Rattle.hazard.specs.Sets as sets;
+ghost use Rattle.hazard.specs.Verdict as spec;
+ghost use Rattle.problem.specs.Ready.{Ready};
+ghost use Rattle.verifier.specs.Answer.{verdictOf};
+ghost use Rattle.verifier.specs.Network.{Sound};
+use crate::fault::Verdict;
+use crate::fault::first_fault;
+use crate::network::read_network;
+use problem::off_set::off_set;
+use problem::privileged::privileged_into;
+use problem::required::required_into;
+
+// The problem's sets and the network's products are stored in the lent room, and the conditions are tried on them.
+fn judge_with(
+    n: usize,
+    table: &[u8],
+    transitions: &[u16],
+    network: &[u8],
+    off: &mut [u64],
+    privileged: &mut [u64],
+    required: &mut [u64],
+    products: &mut [u64],
+) -> Verdict
+    requires { ⌜ Ready n (now table) (now transitions) × (length (sets.required n (now table) (now transitions)) ≤ 2048) × Sound n (now network) ⌝ }
+    requires { ⌜ (length (now off) ≡ 16) × (64 ≤ length (now privileged)) × (2048 ≤ length (now required)) × (2048 ≤ length (now products)) ⌝ }
+    ensures { λ r. ⌜ verdictOf r ≡ spec.fault n (now (table .entry)) (now (transitions .entry)) (spec.products n (now (network .entry))) ⌝ }
+{
+    off_set(table, off);
+    let p = privileged_into(n, table, transitions, privileged);
+    let r = required_into(n, table, transitions, required);
+    let m = read_network(n, network, products);
+    first_fault(n, off, &privileged[0..p], &required[0..r], &products[0..m])
+}
+
+// The same, in room of its own.
+pub fn judge(n: usize, table: &[u8], transitions: &[u16], network: &[u8]) -> Verdict
+    requires { ⌜ Ready n (now table) (now transitions) × (length (sets.required n (now table) (now transitions)) ≤ 2048) × Sound n (now network) ⌝ }
+    ensures { λ r. ⌜ verdictOf r ≡ spec.fault n (now (table .entry)) (now (transitions .entry)) (spec.products n (now (network .entry))) ⌝ }
+{
+    let mut off = [0u64; 16];
+    let mut privileged = [0u64; 64];
+    let mut required = [0u64; 2048];
+    let mut products = [0u64; 2048];
+    judge_with(n, table, transitions, network, &mut off, &mut privileged, &mut required, &mut products)
+}
