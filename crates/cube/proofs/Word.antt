@@ -29,6 +29,6 @@ zero-clean n = record { small = pow-pos n; clean = refl; point = pow-pos n }
 pub taken-clean : (n m : ℕ) (ws : List ℕ) → ((k : ℕ) → k < m → CleanWord n (getD ws k 0)) → (k : ℕ) → CleanWord n (getD (take m ws) k 0)
 taken-clean n m ws h k =
     elim (decLt k m) [
-        yes l ↦ rw (getD-take m ws k 0 l) (h k l)
+      | yes l ↦ rw (getD-take m ws k 0 l) (h k l)
       | no g ↦ rw (List·getD-eq-default (take m ws) 0 {n = k} (omega (arith, length-take m ws, g))) (zero-clean n)
     ]

@@ -1,3 +1,5 @@
 pub mod Words
 pub mod Growing
+pub mod Outcome
 pub mod Raising
+pub mod Ready

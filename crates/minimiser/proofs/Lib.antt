@@ -1,3 +1,4 @@
 pub mod Products
 pub mod Writing
 pub mod Selecting
+pub mod Answering

@@ -9,7 +9,7 @@ use lib.Seq.{drop-append-le, take-at, getD-take, getD-drop, length-take-le}
 use Rattle.hazard.specs.Cube.{Cube}
 use Rattle.hazard.specs.Implicant.{DhfPrime}
 use Rattle.hazard.specs.Minimal.{bytesOf}
-use Rattle.cube.specs.Entry.{privilegedIn}
+use Rattle.cube.specs.Entry.{requiredIn, privilegedIn}
 use Rattle.cube.specs.PointSet.{inSet}
 use Rattle.cube.proofs.Word.{taken-clean}
 use Rattle.choice.specs.Network.{cubeIn, networkIn, Small}
@@ -43,7 +43,7 @@ module _ {n : ℕ} {off privileged required firsts products : List ℕ} {m : ℕ
         let (i, l, g) = index-of v in
         let (k, h, f) = index-of (kept .same (r + i) (omega (arith, l, length-drop r after))) in
         subst (DhfPrime n (inSet off) (map (privilegedIn n) privileged)) (ap (cubeIn n) (sym (getD-take m products k 0 (omega (arith, h, length-take-le m products (chosen .low)))) ∙ f ∙ sym (getD-drop r after i 0) ∙ g) ∙ e)
-            (chosen .good k (omega (arith, h, length-take-le m products (chosen .low))) .prime)
+        (chosen .good k (omega (arith, h, length-take-le m products (chosen .low))) .prime)
 
     kept-length : (rest : List ℕ) → length (take (m - r) (drop r (after ++ rest))) ≡ m - r
     kept-length rest = rw (kept-part rest) (omega (arith, length-drop r after, size))
@@ -56,7 +56,7 @@ module _ {n : ℕ} {off privileged required firsts products : List ℕ} {m : ℕ
 
     pub selected : (rest before written : List ℕ) (s : ℕ)
         → written ≡ bytesOf (networkIn n (take (m - r) (drop r (after ++ rest)))) ++ drop (length (take (m - r) (drop r (after ++ rest))) * n) before
-        → s ≡ m - r → Selected n off privileged required before written s
+        → s ≡ m - r → Selected n (inSet off) (map (privilegedIn n) privileged) (map (requiredIn n) required) before written s
     selected rest before written s is e =
         record {
           net = networkIn n (drop r after);
@@ -65,7 +65,7 @@ module _ {n : ℕ} {off privileged required firsts products : List ℕ} {m : ℕ
           primes = kept-prime;
           covers = kept .covers;
           own = kept .own;
-          few = omega (arith, length-drop r after, size, length-map (drop r after) (cubeIn n), chosen-few);
+          few = omega (arith, length-drop r after, size, length-map (drop r after) (cubeIn n), length-map required (requiredIn n), chosen-few);
         }
 
 -- The first k entries of an array that holds v throughout.

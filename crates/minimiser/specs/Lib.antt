@@ -1,3 +1,4 @@
 pub mod Product
 pub mod Choose
 pub mod Select
+pub mod Answer

@@ -1,12 +1,10 @@
 -- What the conditions say of the stored sets and products, they say of the problem's and the network's.
-use mathlib.Core.Path.{_≡_, sym, ap, _∙_, fun-ext}
+use mathlib.Core.Path.{_≡_, ap, _∙_, fun-ext}
 use mathlib.Core.Bool.{Bool}
 use mathlib.Core.List.{List, map}
-use mathlib.Core.Option.{Option, none, some}
-use Prim.Native.Nat.{ℕ, _*_, _-_, _≤_, _<_, _^_}
+use Prim.Native.Nat.{ℕ, _-_, _≤_}
 use native.Mathlib.Nat.{sub-zero}
 use native.Mathlib.Omega.{arith}
-use lib.Pow.{pow-mono}
 use lib.ListN.{length, getD, take, length-map}
 use Rattle.hazard.specs.Transition as transition
 use Rattle.hazard.specs.Sets.{Privileged, Required, required, privileged}
@@ -16,13 +14,9 @@ use Rattle.cube.specs.Entry.{privilegedIn, requiredIn, CleanWord}
 use Rattle.cube.specs.PointSet.{inSet}
 use Rattle.cube.proofs.Word.{taken-clean}
 use Rattle.problem.specs.Store.{Held}
-use Rattle.expand.specs.Ready.{Ready}
 use Rattle.choice.specs.Network.{cubeIn, networkIn}
 use Rattle.verifier.specs.Network.{Sound, Read}
 use Rattle.verifier.proofs.Bytes.{products-length}
-
-pub off-ready : {n : ℕ} {off : List ℕ} → n ≤ 10 → length off ≡ 16 → Ready n off
-off-ready l e = record { few = l; whole = rw e (pow-mono l) }
 
 module _ {n : ℕ} {bytes words : List ℕ} {m : ℕ} (read : Read n bytes words m) where
   -- The part of the words from 0 to m is handed on.

@@ -45,5 +45,14 @@ pub fn judge(n: usize, table: &[u8], transitions: &[u16], network: &[u8]) -> Ver
     let mut privileged = [0u64; 64];
     let mut required = [0u64; 2048];
     let mut products = [0u64; 2048];
-    judge_with(n, table, transitions, network, &mut off, &mut privileged, &mut required, &mut products)
+    judge_with(
+        n,
+        table,
+        transitions,
+        network,
+        &mut off,
+        &mut privileged,
+        &mut required,
+        &mut products,
+    )
 }

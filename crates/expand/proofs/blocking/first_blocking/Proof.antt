@@ -12,7 +12,7 @@ use Rattle.cube.proofs.Word.{stands-in}
 use Rattle.expand.specs.declared.growth.Grown.{Grown}
 use Rattle.expand.specs.Answer.{grownOf, blockedBy}
 use Rattle.expand.proofs.Words.{Left, left-start, left-end, check-hit, check-miss}
-use Rattle.expand.proofs.Growing.{checked}
+use Rattle.expand.proofs.Outcome.{checked}
 use Rattle.expand.proofs.blocking.first_blocking.Statement.{statement}
 use Rattle.expand.proofs.blocking.first_blocking.Tie as tie
 

@@ -1,5 +1,5 @@
 use Rattle.cube.specs.Mask.{cubeOf}
-use Rattle.expand.proofs.Growing.{kept}
+use Rattle.expand.proofs.Outcome.{kept}
 use borrow.Author.Needs.{needs}
 use Rattle.expand.proofs.prime.absorbed.Statement.{statement}
 use Rattle.expand.proofs.prime.absorbed.Tie as tie

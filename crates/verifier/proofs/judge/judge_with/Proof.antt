@@ -3,7 +3,8 @@ use native.Mathlib.Nat.{le-trans}
 use lib.Pow.{pow-mono}
 use denote.Ref.{now}
 use borrow.Author.Needs.{needs}
-use Rattle.verifier.proofs.Judging.{off-ready, read-few, read-clean, judged}
+use Rattle.expand.proofs.Ready.{off-ready}
+use Rattle.verifier.proofs.Judging.{read-few, read-clean, judged}
 use Rattle.verifier.proofs.judge.judge_with.Statement.{statement}
 use Rattle.verifier.proofs.judge.judge_with.Tie as tie
 
@@ -74,7 +75,7 @@ returns c =
     let s = c .before .before .before .before .before .before .before .before .before .before .before .before .before .before .before .before .before .before .before .before .before .before .before .before .before .before .before .before .before .before .before in
     let o = c .before .before .before .before .before .before .before .before .before .before .before .before .before .before .before .before .before .before .before .before .before .before .off-set in
     judged (s .args .n) (now (s .args .table)) (now (s .args .transitions)) (o .last .1 .0) (now (s .args .network)) (o .ensures) (c .before .before .before .before .before .before .before .before .before .before .before .before .before .before .before .before .before .before .privileged-into .ensures .1)
-        (c .before .before .before .before .before .before .before .before .before .before .before .before .before .before .required-into .ensures) (c .before .before .before .before .before .before .before .before .before .before .read-network .ensures) (c .first-fault .ensures)
+    (c .before .before .before .before .before .before .before .before .before .before .before .before .before .before .required-into .ensures) (c .before .before .before .before .before .before .before .before .before .before .read-network .ensures) (c .first-fault .ensures)
 
 pub judge-with-spec : {M : Type 1} → statement M
 judge-with-spec =

@@ -40,9 +40,11 @@ enum-told-2 c = search needs
 judge-requires : tie.Need-judge-requires
 judge-requires c κs =
     let a = c .before .before .before .before .before .before .before .before .before .args in
-    let ok = passed (c .before .before .before .before .before .check .ensures) (c .before .before .before .enum-told .given .1) in
-    (accepted-ready (a .n) (now (a .table)) (now (a .transitions)) ok, required-few (a .n) (now (a .table)) (now (a .transitions)) ok,
-        network-sound (a .n) (now (a .table)) (now (a .transitions)) (now (a .network)) ok (passed (c .before .before .check-network .ensures) (c .enum-told2 .given .1)))
+    let ok = passed (c .before .before .before .before .before .check .ensures) (c .before .before .before .enum-told .given .1) in (
+      accepted-ready (a .n) (now (a .table)) (now (a .transitions)) ok,
+      required-few (a .n) (now (a .table)) (now (a .transitions)) ok,
+      network-sound (a .n) (now (a .table)) (now (a .transitions)) (now (a .network)) ok (passed (c .before .before .check-network .ensures) (c .enum-told2 .given .1)),
+    )
 
 returns-3 : tie.Need-returns-3
 returns-3 c =

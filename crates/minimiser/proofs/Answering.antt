@@ -1,0 +1,128 @@
+-- From the answer for the stored sets to the minimiser's promise.
+use mathlib.Core.Path.{_≡_, refl, sym, ap, _∙_, fun-ext, subst}
+use mathlib.Core.Bool.{Bool}
+use mathlib.Core.List.{List, [], _∷_, _++_, map, List·Memᴰ, Memᴰ·map}
+use mathlib.Core.Option.{Option, none, some, Option·some-injective}
+use Prim.Native.Nat.{ℕ, _*_, _-_, _≤_, _<_}
+use native.Mathlib.Nat.{sub-zero, mul-comm, mul-le-mul, not-le-of-lt}
+use native.Mathlib.Omega.{arith}
+use lib.Dec.{ltb, lt→ltb, ltb→lt}
+use lib.ListN.{length, getD, take, drop, length-map}
+use lib.Seq.{length-take-le}
+use Rattle.hazard.specs.Search.{firstOf}
+use Rattle.hazard.specs.Transition as transition
+use Rattle.hazard.specs.Sets as sets
+use Rattle.hazard.specs.Growth.{Growth, Legal, Blocked, Grown, grow}
+use Rattle.hazard.specs.Refusal.{Refusal, refusal, inputChecks, Accepted}
+use Rattle.hazard.specs.Minimal.{blockCheck, roomCheck, blocking, minimiserChecks, Minimised, written, declined, bytesOf, Promise}
+use Rattle.hazard.proofs.Search.{none-some, firstOf-map, firstOf-left, firstOf-right, firstOf-one}
+use Rattle.hazard.proofs.Rules.{few-inputs, required-few}
+use Rattle.hazard.proofs.Minimal.{minimal}
+use Rattle.hazard.proofs.Promise.{promise-refused, promise-written}
+use Rattle.cube.specs.Entry.{requiredIn, privilegedIn, CleanWord}
+use Rattle.cube.specs.PointSet.{inSet}
+use Rattle.cube.proofs.Word.{taken-clean}
+use Rattle.problem.specs.Store.{Held}
+use Rattle.problem.proofs.Checks.{refuse-yes, refuse-no}
+use Rattle.choice.specs.Network.{cubeIn}
+use Rattle.choice.proofs.Keeping.{entry-of}
+use Rattle.minimiser.specs.Select.{Selected}
+use Rattle.minimiser.specs.Answer.{blockingOf, Answered}
+
+-- A required cube that does not block grows to a dhf-implicant.
+grown-of : (n : ℕ) (off : ℕ → Bool) (vs : List sets.Privileged) (r : sets.Required) → blockCheck n off vs r ≡ none → Grown (grow n off vs (r .cube))
+grown-of n off vs r e = go (grow n off vs (r .cube)) e
+  where
+    go : (g : Growth) → _≡_ {A = Option Refusal} (elim g [
+      | Legal c s ↦ none
+      | Blocked z s ↦ some (record { number = 10; transition = r .transition; point = r .label; steps = s; lowest = z; product = 0 })
+    ]) none → Grown g
+    go (Legal c s) e = tt
+    go (Blocked z s) e = none-some (sym e)
+
+module _ (n : ℕ) (off privileged required : List ℕ) where
+  pub all-grown : blockingOf n (inSet off) (map (privilegedIn n) privileged) (map (requiredIn n) required) ≡ none
+      → (k : ℕ) → k < length required → Grown (grow n (inSet off) (map (privilegedIn n) privileged) (cubeIn n (getD required k 0)))
+  all-grown e k l =
+      grown-of n (inSet off) (map (privilegedIn n) privileged) (requiredIn n (getD required k 0))
+      (firstOf-map (blockCheck n (inSet off) (map (privilegedIn n) privileged)) (map (requiredIn n) required) .0 e (requiredIn n (getD required k 0)) (Memᴰ·map (requiredIn n) (entry-of required k l)))
+
+module _ (n : ℕ) (off : ℕ → Bool) (vs : List sets.Privileged) (rs : List sets.Required) where
+  pub answered-refused : {q : Refusal} (before : List ℕ) → some q ≡ blockingOf n off vs rs → Answered n off vs rs before before (declined q)
+  answered-refused {q} before e =
+      record { refused = λ p h. (ap declined (Option·some-injective q p (e ∙ h)), refl); network = λ h. none-some (sym h ∙ sym e) }
+
+  pub answered-written : {before after : List ℕ} {k : ℕ} → blockingOf n off vs rs ≡ none → Selected n off vs rs before after k → Answered n off vs rs before after (written k)
+  answered-written {k = k} e s = record { refused = λ p h. none-some (sym e ∙ h); network = λ h. (k, refl, s) }
+
+-- The stored sets, handed on as parts from 0, are the problem's.
+module _ (n : ℕ) (f ts off : List ℕ) where
+  module _ {rs rs· : List ℕ} {r : ℕ} (hr : Held n (requiredIn n) rs· rs r (sets.required n f ts)) where
+    required-is : map (requiredIn n) (take (r - 0) rs) ≡ sets.required n f ts
+    required-is = rw (sub-zero r) (hr .is)
+
+    required-length : length (take (r - 0) rs) ≡ length (sets.required n f ts)
+    required-length = sym (length-map (take (r - 0) rs) (requiredIn n)) ∙ ap (λ (l : List sets.Required). length l) required-is
+
+    pub required-fits : {b : ℕ} → length (sets.required n f ts) ≤ b → length (take (r - 0) rs) ≤ b
+    required-fits l = rw required-length l
+
+    pub required-room : {b : ℕ} → length (sets.required n f ts) * n ≤ b → length (take (r - 0) rs) * n ≤ b
+    required-room l = rw required-length l
+
+    pub required-clean : (k : ℕ) → CleanWord n (getD (take (r - 0) rs) k 0)
+    required-clean = rw (sub-zero r) (taken-clean n r rs (hr .clean))
+
+    pub answered-sets : {vs vs· before after : List ℕ} {p : ℕ} {a : Minimised} → ((x : ℕ) → inSet off x ≡ transition.off f x) → Held n (privilegedIn n) vs· vs p (sets.privileged n f ts)
+        → Answered n (inSet off) (map (privilegedIn n) (take (p - 0) vs)) (map (requiredIn n) (take (r - 0) rs)) before after a
+        → Answered n (transition.off f) (sets.privileged n f ts) (sets.required n f ts) before after a
+    answered-sets {vs} {before = before} {after} {p} {a} same hp h =
+        let d : map (privilegedIn n) (take (p - 0) vs) ≡ sets.privileged n f ts = rw (sub-zero p) (hp .is) in
+        subst (λ (o : ℕ → Bool). Answered n o (sets.privileged n f ts) (sets.required n f ts) before after a) (fun-ext same)
+        (subst (λ (l : List sets.Privileged). Answered n (inSet off) l (sets.required n f ts) before after a) d
+        (subst (λ (l : List sets.Required). Answered n (inSet off) (map (privilegedIn n) (take (p - 0) vs)) l before after a) required-is h))
+
+-- The promise, of each way to answer.
+module _ (n : ℕ) (f ts before : List ℕ) where
+  abbrev late : List (Option Refusal)
+  late = roomCheck n f ts (length before) ∷ blocking n f ts ∷ []
+
+  pub input-declined : {q : Refusal} → some q ≡ firstOf (inputChecks n f ts) → Promise n f ts before before (declined q)
+  input-declined e = promise-refused n f ts before (firstOf-left (inputChecks n f ts) late (sym e))
+
+  module _ (ok : Accepted n f ts) where
+    pub room-declined : {q : Refusal} (count : ℕ) → count ≡ length (sets.required n f ts) → q ≡ refusal 9 0 0 → length before < n * count → Promise n f ts before before (declined q)
+    room-declined count c e h =
+        let l : length before < n * length (sets.required n f ts) = rw c at h in
+        promise-refused n f ts before (firstOf-right (inputChecks n f ts) late ok ∙ room e (refuse-yes (ltb (length before) (n * length (sets.required n f ts))) 9 (lt→ltb (length before) (n * length (sets.required n f ts)) l)))
+      where
+        room : {q q' : Refusal} {o : Option Refusal} → q ≡ q' → some q' ≡ o → firstOf (o ∷ blocking n f ts ∷ []) ≡ some q
+        room {o = none} e h = none-some (sym h)
+        room {o = some p} e h = sym h ∙ ap some (sym e)
+
+    pub room-enough : (count : ℕ) → count ≡ length (sets.required n f ts) → n * count ≤ length before → length (sets.required n f ts) * n ≤ length before
+    room-enough count c l = rw (← c, mul-comm count n) l
+
+    pub promised : {after : List ℕ} {a : Minimised} (count : ℕ) → count ≡ length (sets.required n f ts) → n * count ≤ length before
+        → Answered n (transition.off f) (sets.privileged n f ts) (sets.required n f ts) before after a → Promise n f ts before after a
+    promised {after} {a} count c l h = go (blocking n f ts) refl
+      where
+        enough : n * length (sets.required n f ts) ≤ length before
+        enough = rw c at l
+
+        none-room : roomCheck n f ts (length before) ≡ none
+        none-room = sym (refuse-no (ltb (length before) (n * length (sets.required n f ts))) 9 (λ t. not-le-of-lt (ltb→lt (length before) (n * length (sets.required n f ts)) t) enough))
+
+        checks : firstOf (minimiserChecks n f ts (length before)) ≡ blocking n f ts
+        checks = firstOf-right (inputChecks n f ts) late ok ∙ firstOf-right (roomCheck n f ts (length before) ∷ []) (blocking n f ts ∷ []) (firstOf-one (roomCheck n f ts (length before)) ∙ none-room) ∙ firstOf-one (blocking n f ts)
+
+        go : (o : Option Refusal) → blocking n f ts ≡ o → Promise n f ts before after a
+        go (some q) e = let (p, u) = h .refused q e in rw (p, u) (promise-refused n f ts before (checks ∙ e))
+        go none e =
+            let (k, p, s) = h .network e in
+            rw (p, s .size) (promise-written n f ts before (s .net) (checks ∙ e)
+            (minimal n f ts ok (s .net) (s .primes) (s .covers) (s .own) (s .few)) (s .is ∙ ap (λ (z : ℕ). bytesOf (s .net) ++ drop z before) (mul-comm (length (s .net)) n)))
+
+    -- The bytes that are asked for are few.
+    pub bytes-few : (count : ℕ) → count ≡ length (sets.required n f ts) → n * count ≤ 20480
+    bytes-few count e = let l : count ≤ 2048 = omega (arith, e, required-few n f ts ok) in mul-le-mul (few-inputs n f ts ok .1) l
