@@ -36,7 +36,7 @@ pub fn covers(n: usize, products: &[u64], r: u64) -> bool
 }
 
 // The flag of each required cube that lies in the product is set.
-pub fn mark(n: usize, required: &[u64], flags: &mut [bool], p: u64)
+pub fn flag_covered(n: usize, required: &[u64], flags: &mut [bool], p: u64)
     requires { ⌜ (length (now required) ≤ length (now flags)) × Small n p ⌝ }
     ensures { λ _. ⌜ ((i : ℕ) → i < length (now (required .entry))
         → getD (now (flags .exit)) i false ≡ (getD (now (flags .entry)) i false || inside (cubeIn n (getD (now (required .entry)) i 0)) (cubeIn n p))) ⌝ }

@@ -6,7 +6,7 @@ ghost use lib.ListN.{length, getD};
 ghost use Rattle.hazard.specs.Search.{found, first};
 ghost use Rattle.choice.specs.Network.{Small};
 ghost use Rattle.choice.specs.Keep.{neededIn, Noted, Kept};
-use crate::cover::mark;
+use crate::cover::flag_covered;
 
 // Required cube i has product j for its first, and lies in no product kept so far.
 fn needed_at(firsts: &[u16], flags: &[bool], j: u16, i: usize) -> bool
@@ -50,7 +50,7 @@ pub fn kept_from(n: usize, required: &[u64], firsts: &[u16], products: &mut [u64
             let p = products[j];
             kept -= 1;
             products[kept] = p;
-            mark(n, required, &mut flags, p);
+            flag_covered(n, required, &mut flags, p);
         }
     }
     kept

@@ -45,11 +45,11 @@ mul-products c = search needs
 slice-write-products : tie.Need-slice-write-products Inv-loop μ-loop
 slice-write-products c = search needs
 
-slice-aggregate-mark : tie.Need-slice-aggregate-mark Inv-loop μ-loop
-slice-aggregate-mark c = search needs
+slice-aggregate-flag-covered : tie.Need-slice-aggregate-flag-covered Inv-loop μ-loop
+slice-aggregate-flag-covered c = search needs
 
-mark-requires : tie.Need-mark-requires Inv-loop μ-loop
-mark-requires c κs =
+flag-covered-requires : tie.Need-flag-covered-requires Inv-loop μ-loop
+flag-covered-requires c κs =
     let s = c .before .before .before .before .before .before .before .before .before .before in
     let l = c .before .before .before .before .before .before .loop in
     (omega (arith, s .pre .0 .many, l .inv .wide), rw (l .inv .below (l .j - 1) (omega arith)) (s .pre .1 (l .j - 1)))
@@ -61,7 +61,7 @@ loop-again : tie.Need-loop-again Inv-loop μ-loop
 loop-again c =
     let s = c .before .before .before .before .before .before .before .before .before .before .before .before in
     let l = c .before .before .before .before .before .before .before .before .loop in
-    keeping-keep (s .pre .0) (keeping-turn (s .pre .0) (l .inv) (omega arith)) (sym (c .before .before .before .before .before .needed .ensures) ∙ c .before .before .before .before .if1 .taken) (c .before .mark .ensures) (c .before .mark .kept .1 .1 .0)
+    keeping-keep (s .pre .0) (keeping-turn (s .pre .0) (l .inv) (omega arith)) (sym (c .before .before .before .before .before .needed .ensures) ∙ c .before .before .before .before .if1 .taken) (c .before .flag-covered .ensures) (c .before .flag-covered .kept .1 .1 .0)
 
 loop-less-2 : tie.Need-loop-less-2 Inv-loop μ-loop
 loop-less-2 c = search needs
@@ -98,8 +98,8 @@ kept-from-spec =
     sub-kept
     mul-products
     slice-write-products
-    slice-aggregate-mark
-    mark-requires
+    slice-aggregate-flag-covered
+    flag-covered-requires
     loop-less
     loop-again
     loop-less-2

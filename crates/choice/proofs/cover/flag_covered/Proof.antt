@@ -7,8 +7,8 @@ use mathlib.Core.Bool.{Bool, false, _||_}
 use Rattle.hazard.specs.Cube.{inside}
 use Rattle.choice.specs.Network.{cubeIn}
 use Rattle.choice.proofs.Sweep.{Sweep, sweep-start, sweep-step}
-use Rattle.choice.proofs.cover.mark.Statement.{statement}
-use Rattle.choice.proofs.cover.mark.Tie as tie
+use Rattle.choice.proofs.cover.flag_covered.Statement.{statement}
+use Rattle.choice.proofs.cover.flag_covered.Tie as tie
 
 abbrev Inv-loop : tie.InvT-loop
 Inv-loop n required flags₀ p i₀ flags i = (i ≤ length required) × Sweep (λ k b. b || inside (cubeIn n (getD required k 0)) (cubeIn n p)) false flags₀ flags i
@@ -51,5 +51,5 @@ same-length c = c .before .loop .inv .1 .long
 returns : tie.Need-returns Inv-loop μ-loop
 returns c i h = c .before .loop .inv .1 .done i (omega arith)
 
-pub mark-spec : {M : Type 1} → statement M
-mark-spec = tie.close (tie.spec Inv-loop μ-loop loop-holds mul-word-inside shared-slice-read-word-inside word-inside-requires slice-read-flags slice-write-flags add-i loop-less loop-again same-length returns)
+pub flag-covered-spec : {M : Type 1} → statement M
+flag-covered-spec = tie.close (tie.spec Inv-loop μ-loop loop-holds mul-word-inside shared-slice-read-word-inside word-inside-requires slice-read-flags slice-write-flags add-i loop-less loop-again same-length returns)
