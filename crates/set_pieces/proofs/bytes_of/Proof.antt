@@ -2,8 +2,8 @@ use Prim.Native.Nat.{_≤_}
 use native.Mathlib.Nat.{mul-le-mul}
 use native.Mathlib.Omega.{arith}
 use borrow.Author.Needs.{needs}
-use Rattle.set_pieces.proofs.print.end.Statement.{statement}
-use Rattle.set_pieces.proofs.print.end.Tie as tie
+use Rattle.set_pieces.proofs.bytes_of.Statement.{statement}
+use Rattle.set_pieces.proofs.bytes_of.Tie as tie
 
 returns : tie.Need-returns
 returns c = search needs
@@ -24,5 +24,5 @@ returns-3 c = search needs
 returns-4 : tie.Need-returns-4
 returns-4 c = search needs
 
-pub end-spec : {M : Type 1} → statement M
-end-spec = tie.close (tie.spec returns returns-2 mul-end returns-3 returns-4)
+pub bytes-of-spec : {M : Type 1} → statement M
+bytes-of-spec = tie.close (tie.spec returns returns-2 mul-end returns-3 returns-4)

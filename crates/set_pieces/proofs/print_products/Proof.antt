@@ -1,8 +1,8 @@
 use Prim.Native.Nat.{_-_, _≤_}
 use lib.ListN.{length}
 use borrow.Author.Needs.{needs}
-use Rattle.set_pieces.proofs.print.products.Statement.{statement}
-use Rattle.set_pieces.proofs.print.products.Tie as tie
+use Rattle.set_pieces.proofs.print_products.Statement.{statement}
+use Rattle.set_pieces.proofs.print_products.Tie as tie
 
 abbrev Inv-loop : tie.InvT-loop
 Inv-loop n count bytes i₀ t6 t7 i = i ≤ length bytes
@@ -34,11 +34,11 @@ slice-aggregate-write-all-2 c = search needs
 write-all-requires-2 : tie.Need-write-all-requires-2 Inv-loop μ-loop
 write-all-requires-2 c κs = search needs
 
-shared-slice-read-digit : tie.Need-shared-slice-read-digit Inv-loop μ-loop
-shared-slice-read-digit c = search needs
+shared-slice-read-print-digit : tie.Need-shared-slice-read-print-digit Inv-loop μ-loop
+shared-slice-read-print-digit c = search needs
 
-digit-requires : tie.Need-digit-requires Inv-loop μ-loop
-digit-requires c κs = search needs
+print-digit-requires : tie.Need-print-digit-requires Inv-loop μ-loop
+print-digit-requires c κs = search needs
 
 add-i : tie.Need-add-i Inv-loop μ-loop
 add-i c = search needs
@@ -58,8 +58,8 @@ write-all-requires-3 c κs = search needs
 returns-2 : tie.Need-returns-2 Inv-loop μ-loop
 returns-2 c = search needs
 
-pub products-spec : {M : Type 1} → statement M
-products-spec =
+pub print-products-spec : {M : Type 1} → statement M
+print-products-spec =
     tie.close
     (tie.spec
     Inv-loop
@@ -72,8 +72,8 @@ products-spec =
     rem-if2
     slice-aggregate-write-all-2
     write-all-requires-2
-    shared-slice-read-digit
-    digit-requires
+    shared-slice-read-print-digit
+    print-digit-requires
     add-i
     loop-less
     loop-again
