@@ -1,5 +1,5 @@
 -- The verifier is right: it passes exactly the hazard-free networks.
-use mathlib.Core.Path.{_≡_, refl, sym, subst, _∙_}
+use mathlib.Core.Path.{_≡_, refl, sym, subst, _∙_, ap}
 use mathlib.Core.Logic.{_↔_}
 use mathlib.Core.Bool.{not, _&&_}
 use mathlib.Core.List.{List, [], _∷_, _++_, List·Memᴰ}
@@ -16,7 +16,7 @@ use Rattle.hazard.specs.Implicant.{illegal, lowestZero}
 use Rattle.hazard.specs.Cover.{Network, productAt, WellFormed, covered, HazardFreeCover}
 use Rattle.hazard.specs.HazardFree.{HazardFree}
 use Rattle.hazard.specs.Refusal.{Refusal, inputChecks, Accepted}
-use Rattle.hazard.specs.Verdict.{products, productsCheck, digitsCheck, verifierChecks, Verdict, refused, passed, holdsZero, intersects, uncovered, faultA, faultC, faultB, firstFault, fault, verdict, Verified}
+use Rattle.hazard.specs.Verdict.{products, productsCheck, digitsCheck, verifierChecks, Verdict, refused, passed, holdsZero, intersects, uncovered, faultA, faultC, faultB, firstFault, fault, verdict, Verified, mark}
 use Rattle.hazard.proofs.Test.{T-and, sure}
 use Rattle.hazard.proofs.Search.{none-some, first-none, none-first, find-none, place-none, firstOf-none, firstOf-append, First, lowest, first-is, Find, hit, find-is, Earlier, Place, placed, place-is}
 use Rattle.hazard.proofs.Network.{entry-at, at-places}
@@ -185,6 +185,7 @@ module _ (n : ℕ) (f ts bytes : List ℕ) where
   verified {v} e =
       record {
         is = e;
+        marked = ap mark e;
         covers = λ h. let s = judged (firstOf (verifierChecks n f ts bytes)) (fault n f ts (products n bytes)) in
             let c = fault-passed n f ts (products n bytes) in (λ p. c .0 (s .0 (sym e ∙ p) .1), λ k. e ∙ s .1 (h, c .1 k));
         hazardFree = λ h. let c = checked-passed h in (λ p. c .0 (sym e ∙ p), λ k. e ∙ c .1 k);

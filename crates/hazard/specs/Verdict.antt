@@ -75,15 +75,6 @@ fault n f ts net = firstFault (faultA n (off f) net) (faultC (privileged n f ts)
 abbrev pub verdict : ℕ → List ℕ → List ℕ → List ℕ → Verdict
 verdict n f ts bytes = elim (firstOf (verifierChecks n f ts bytes)) [ some r ↦ refused r | none ↦ fault n f ts (products n bytes) ]
 
--- What the verifier promises of its verdict.
-pub record Verified (n : ℕ) (f ts bytes : List ℕ) (v : Verdict) : Type 0 where
-  -- It is the definition's, for refused input too.
-  pub is : v ≡ verdict n f ts bytes
-  -- Where nothing is refused: passed exactly if conditions (a), (b) and (c) hold,
-  pub covers : firstOf (verifierChecks n f ts bytes) ≡ none → (v ≡ passed) ↔ HazardFreeCover n f ts (products n bytes)
-  -- and exactly if the network is hazard-free.
-  pub hazardFree : firstOf (verifierChecks n f ts bytes) ≡ none → (v ≡ passed) ↔ HazardFree n f ts (products n bytes)
-
 -- The verdict's number and the fields that go back with it. What a verdict does not name is 0.
 pub record Mark : Type 0 where
   pub number : ℕ
@@ -98,3 +89,14 @@ mark passed = record { number = 1; refusal = 0; product = 0; transition = 0; poi
 mark (holdsZero j x) = record { number = 2; refusal = 0; product = j; transition = 0; point = x }
 mark (intersects j k) = record { number = 3; refusal = 0; product = j; transition = k; point = 0 }
 mark (uncovered k x) = record { number = 4; refusal = 0; product = 0; transition = k; point = x }
+
+-- What the verifier promises of its verdict.
+pub record Verified (n : ℕ) (f ts bytes : List ℕ) (v : Verdict) : Type 0 where
+  -- It is the definition's, for refused input too.
+  pub is : v ≡ verdict n f ts bytes
+  -- So are its number and fields.
+  pub marked : mark v ≡ mark (verdict n f ts bytes)
+  -- Where nothing is refused: passed exactly if conditions (a), (b) and (c) hold,
+  pub covers : firstOf (verifierChecks n f ts bytes) ≡ none → (v ≡ passed) ↔ HazardFreeCover n f ts (products n bytes)
+  -- and exactly if the network is hazard-free.
+  pub hazardFree : firstOf (verifierChecks n f ts bytes) ≡ none → (v ≡ passed) ↔ HazardFree n f ts (products n bytes)
