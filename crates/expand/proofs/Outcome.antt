@@ -1,20 +1,18 @@
 -- What is made of a growth's answer.
-use mathlib.Core.Path.{_≡_, refl}
-use mathlib.Core.Bool.{Bool}
+use mathlib.Core.Path.{_≡_}
 use mathlib.Core.List.{List, map}
-use mathlib.Core.Option.{none, some}
 use Prim.Native.Nat.{ℕ}
 use Rattle.hazard.specs.Cube.{Cube}
-use Rattle.hazard.specs.Sets.{Required, Privileged}
-use Rattle.hazard.specs.Growth.{Growth, Legal, Blocked, grow}
+use Rattle.hazard.specs.Sets.{Required}
+use Rattle.hazard.specs.Growth.{grow}
 use Rattle.hazard.specs.Expansion.{grownOr}
-use Rattle.hazard.specs.Minimal.{blockCheck}
+use Rattle.hazard.specs.Minimal.{blockedBy, blockCheck}
 use Rattle.cube.specs.declared.mask.Cube as masks
 use Rattle.cube.specs.Mask.{Stands}
 use Rattle.cube.specs.Entry.{privilegedIn}
 use Rattle.cube.specs.PointSet.{inSet}
 use Rattle.expand.specs.declared.growth.Grown as code
-use Rattle.expand.specs.Answer.{grownOf, Grows, blockedBy}
+use Rattle.expand.specs.Answer.{grownOf, Grows}
 
 -- What is kept after the growth of a cube.
 pub kept : {n : ℕ} {off privileged : List ℕ} {q q′ : Cube} {g : code.Grown} (p : Cube) {r : masks.Cube}
@@ -22,13 +20,6 @@ pub kept : {n : ℕ} {off privileged : List ℕ} {q q′ : Cube} {g : code.Grown
 kept p s e t = rw (← e, ← s .is) t
 
 -- What a required cube's check says, from its growth.
-block-is : (n : ℕ) (off : ℕ → Bool) (vs : List Privileged) (r : Required) → blockedBy r (grow n off vs (r .cube)) ≡ blockCheck n off vs r
-block-is n off vs r = go (grow n off vs (r .cube))
-  where
-    go : (g : Growth) → blockedBy r g ≡ elim g [ Legal c s ↦ none | Blocked z s ↦ some (record { number = 10; transition = r .transition; point = r .label; steps = s; lowest = z; product = 0 }) ]
-    go (Legal c s) = refl
-    go (Blocked z s) = refl
-
 pub checked : {n : ℕ} {off privileged : List ℕ} {q : Cube} {g : code.Grown} (r : Required)
     → Grows n off privileged q g → q ≡ r .cube → blockedBy r (grownOf n g) ≡ blockCheck n (inSet off) (map (privilegedIn n) privileged) r
-checked {n} {off} {privileged} r s e = rw (s .is, e) (block-is n (inSet off) (map (privilegedIn n) privileged) r)
+checked {n} {off} {privileged} r s e = rw (s .is, e)

@@ -4,9 +4,8 @@ use mathlib.Core.List.{List, map}
 use mathlib.Core.Option.{Option, none, some}
 use Prim.Native.Nat.{ℕ, _≤_}
 use Rattle.hazard.specs.Cube as digits
-use Rattle.hazard.specs.Sets.{Required, Privileged}
+use Rattle.hazard.specs.Sets.{Privileged}
 use Rattle.hazard.specs.Growth as spec
-use Rattle.hazard.specs.Refusal.{Refusal}
 use Rattle.cube.specs.Mask.{cubeOf, Clean}
 use Rattle.cube.specs.Entry.{privilegedIn}
 use Rattle.cube.specs.PointSet.{inSet}
@@ -39,8 +38,3 @@ pub record Grows (n : ℕ) (off privileged : List ℕ) (c : digits.Cube) (r : Gr
   pub is : grownOf n r ≡ spec.grow n (inSet off) (map (privilegedIn n) privileged) c
   pub few : spec.steps (grownOf n r) ≤ n
   pub clean : LegalClean n r
-
--- The refusal of a required cube, from its growth.
-abbrev pub blockedBy : Required → spec.Growth → Option Refusal
-blockedBy r (spec.Legal c s) = none
-blockedBy r (spec.Blocked z s) = some (record { number = 10; transition = r .transition; point = r .label; steps = s; lowest = z; product = 0 })

@@ -2,7 +2,7 @@
 use mathlib.Core.Path.{_≡_, refl, sym, ap}
 use mathlib.Core.Logic.{_↔_, _≢_, inl, inr, ∥∥₁-elim}
 use mathlib.Core.HLevel.{⊥-prop}
-use mathlib.Core.Bool.{not, _&&_}
+use mathlib.Core.Bool.{Bool, not, _&&_}
 use mathlib.Core.List.{List, [], _∷_, List·Memᴰ, List·Memᴰ·head, List·Memᴰ·tail, List·Memᴰ·cases-cons, List·Memᴰ·not-nil, List·Mem, List·Nodup, Pairwise·nil, Pairwise·cons}
 use mathlib.Core.Option.{Option, none, some, Option·some-injective}
 use Prim.Native.Nat.{ℕ, zero, suc, _^_, _≤_, _<_}
@@ -19,7 +19,7 @@ use Rattle.hazard.specs.Growth.{Growth, Legal, Blocked, steps, Grown, gr
 use Rattle.hazard.specs.Cover.{Network, productAt, WellFormed, covered, without, Own, Irredundant, HazardFreeCover}
 use Rattle.hazard.specs.HazardFree.{HazardFree}
 use Rattle.hazard.specs.Refusal.{Refusal, Accepted}
-use Rattle.hazard.specs.Minimal.{blockCheck, blocking, Minimal}
+use Rattle.hazard.specs.Minimal.{blockedBy, blockCheck, blocking, Minimal}
 use Rattle.hazard.proofs.Test.{tests, or-l, or-r, or-e, T-no, sure}
 use Rattle.hazard.proofs.Search.{none-some, none-first, firstOf-map, firstOf-some, Find, missing, hit, find-is}
 use Rattle.hazard.proofs.Sets.{privileged-wide, required-digits}
@@ -57,24 +57,21 @@ irredundant-nodup rs (p ∷ net) h = Pairwise·cons (λ q m. other q m) (irredun
     other : (q : Cube) → List·Mem q net → p ≢ q
     other q m e = ∥∥₁-elim m ⊥-prop (λ d. let o = h 0 (omega arith) in o .alone (covered-by (o .cube .cube) d (rw e at (o .mine))))
 
-module _ (n : ℕ) (f ts : List ℕ) where
-  -- A growth that ends blocked is refusal 10, and no other.
-  block-none : (r : Required) → (blockCheck n (off f) (privileged n f ts) r ≡ none) ↔ Grown (grow n (off f) (privileged n f ts) (r .cube))
-  block-none r = go (grow n (off f) (privileged n f ts) (r .cube))
-    where
-      go : (g : Growth) → (_≡_ {A = Option Refusal} (elim g [
-        | Legal c s ↦ none
-        | Blocked z s ↦ some (record { number = 10; transition = r .transition; point = r .label; steps = s; lowest = z; product = 0 })
-      ]) none) ↔ Grown g
-      go (Legal c s) = (λ e. tt, λ t. refl)
-      go (Blocked z s) = (λ e. none-some (sym e), λ t. absurd t)
+-- A growth that ends blocked is refusal 10, and no other.
+pub block-none : (n : ℕ) (off : ℕ → Bool) (vs : List Privileged) (r : Required) → (blockCheck n off vs r ≡ none) ↔ Grown (grow n off vs (r .cube))
+block-none n off vs r = go (grow n off vs (r .cube))
+  where
+    go : (g : Growth) → (blockedBy r g ≡ none) ↔ Grown g
+    go (Legal c s) = (λ e. tt, λ t. refl)
+    go (Blocked z s) = (λ e. none-some (sym e), λ t. absurd t)
 
+module _ (n : ℕ) (f ts : List ℕ) where
   -- No required cube blocks exactly if there is a hazard-free cover.
   pub cover-iff : (blocking n f ts ≡ none) ↔ ((net : Network) × WellFormed n net × HazardFreeCover n f ts net)
   cover-iff =
       let b = firstOf-map (blockCheck n (off f) (privileged n f ts)) (required n f ts) in
       let c = cover-exists n (off f) (required n f ts) (privileged n f ts) (privileged-wide n f ts) (required-digits n f ts) in
-      (λ e. c .0 (λ r m. block-none r .0 (b .0 e r m)), λ h. b .1 (λ r m. block-none r .1 (c .1 h r m)))
+      (λ e. c .0 (λ r m. block-none n (off f) (privileged n f ts) r .0 (b .0 e r m)), λ h. b .1 (λ r m. block-none n (off f) (privileged n f ts) r .1 (c .1 h r m)))
 
   module _ (accepted : Accepted n f ts) where
     -- No required cube blocks exactly if there is a hazard-free network, of any size.
@@ -101,10 +98,7 @@ module _ (n : ℕ) (f ts : List ℕ) where
         free r m = none-first (λ x. has (r .cube) x && off f x) 0 (2 ^ n)
             (λ x a b t. let (h, o) = simp tests at t in omega (arith, required-ones n f ts accepted r m x (omega arith) h))
 
-        go : (r : Required) (g : Growth) → Grows n (off f) vs (r .cube) 0 g → steps g ≤ n → lowestZero n (off f) (r .cube) ≡ none → _≡_ {A = Option Refusal} (elim g [
-          | Legal c s ↦ none
-          | Blocked z s ↦ some (record { number = 10; transition = r .transition; point = r .label; steps = s; lowest = z; product = 0 })
-        ]) (some q) → (1 ≤ q .steps) × (q .steps ≤ n)
+        go : (r : Required) (g : Growth) → Grows n (off f) vs (r .cube) 0 g → steps g ≤ n → lowestZero n (off f) (r .cube) ≡ none → blockedBy r g ≡ some q → (1 ≤ q .steps) × (q .steps ≤ n)
         go r (Legal c s) u l k h = none-some h
         go r (Blocked z s) u l k h = let e : s ≡ q .steps = ap (λ (x : Refusal). x .steps) (Option·some-injective _ _ h) in (omega (arith, blocked-later n (off f) vs k u), omega arith)
 

@@ -12,7 +12,7 @@ use Rattle.hazard.specs.Transition.{off}
 use Rattle.hazard.specs.Growth.{Growth, Legal, Blocked, grow}
 use Rattle.hazard.specs.Cover.{Network}
 use Rattle.hazard.specs.Refusal.{Refusal, inputChecks, Accepted}
-use Rattle.hazard.specs.Minimal.{blockCheck, roomCheck, blocking, minimiserChecks, Minimal, Minimised, written, declined, bytesOf, NoNetwork, Promise}
+use Rattle.hazard.specs.Minimal.{blockedBy, blockCheck, roomCheck, blocking, minimiserChecks, Minimal, Minimised, written, declined, bytesOf, NoNetwork, Promise}
 use Rattle.hazard.proofs.Search.{none-some, firstOf-append, firstOf-some, firstOf-one}
 use Rattle.hazard.proofs.Minimal.{exists-iff}
 
@@ -21,10 +21,7 @@ module _ (n : ℕ) (f ts : List ℕ) where
   block-number : (q : Refusal) → blocking n f ts ≡ some q → q .number ≡ 10
   block-number q e = let (r, m, h) = firstOf-some (blockCheck n (off f) (privileged n f ts)) (required n f ts) e in go r (grow n (off f) (privileged n f ts) (r .cube)) h
     where
-      go : (r : Required) (g : Growth) → _≡_ {A = Option Refusal} (elim g [
-        | Legal c s ↦ none
-        | Blocked z s ↦ some (record { number = 10; transition = r .transition; point = r .label; steps = s; lowest = z; product = 0 })
-      ]) (some q) → q .number ≡ 10
+      go : (r : Required) (g : Growth) → blockedBy r g ≡ some q → q .number ≡ 10
       go r (Legal c s) h = none-some h
       go r (Blocked z s) h = sym (ap (λ (x : Refusal). x .number) (Option·some-injective _ _ h))
 

@@ -12,18 +12,18 @@ use Rattle.hazard.specs.Cube.{Cube}
 use Rattle.hazard.specs.Transition.{off}
 use Rattle.hazard.specs.Sets.{Required, Privileged, required, privileged}
 use Rattle.hazard.specs.Implicant.{DhfPrime}
-use Rattle.hazard.specs.Growth.{Legal, Blocked, grow}
+use Rattle.hazard.specs.Growth.{Growth, Legal, Blocked, grow}
 use Rattle.hazard.specs.Cover.{Network, WellFormed, without, HazardFreeCover}
 use Rattle.hazard.specs.HazardFree.{HazardFree}
 use Rattle.hazard.specs.Refusal.{Refusal, refuseIf, inputChecks}
 
--- 10: the required cube blocks; its transition and label, the steps of its growth, and the zero that it ends at.
+-- 10: the growth of a required cube ends blocked; the cube's transition and label, the steps of its growth, and the zero that it ends at.
+abbrev pub blockedBy : Required → Growth → Option Refusal
+blockedBy r (Legal c s) = none
+blockedBy r (Blocked z s) = some (record { number = 10; transition = r .transition; point = r .label; steps = s; lowest = z; product = 0 })
+
 abbrev pub blockCheck : ℕ → (ℕ → Bool) → List Privileged → Required → Option Refusal
-blockCheck n off vs r =
-    elim (grow n off vs (r .cube)) [
-      | Legal c s ↦ none
-      | Blocked z s ↦ some (record { number = 10; transition = r .transition; point = r .label; steps = s; lowest = z; product = 0 })
-    ]
+blockCheck n off vs r = blockedBy r (grow n off vs (r .cube))
 
 module _ (n : ℕ) (f ts : List ℕ) where
   -- 9: the buffer is shorter than n bytes for each required cube.

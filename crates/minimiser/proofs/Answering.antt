@@ -12,12 +12,12 @@ use lib.Seq.{length-take-le}
 use Rattle.hazard.specs.Search.{firstOf}
 use Rattle.hazard.specs.Transition as transition
 use Rattle.hazard.specs.Sets as sets
-use Rattle.hazard.specs.Growth.{Growth, Legal, Blocked, Grown, grow}
+use Rattle.hazard.specs.Growth.{Grown, grow}
 use Rattle.hazard.specs.Refusal.{Refusal, refusal, inputChecks, Accepted}
 use Rattle.hazard.specs.Minimal.{blockCheck, roomCheck, blocking, minimiserChecks, Minimised, written, declined, bytesOf, Promise}
 use Rattle.hazard.proofs.Search.{none-some, firstOf-map, firstOf-left, firstOf-right, firstOf-one}
 use Rattle.hazard.proofs.Rules.{few-inputs, required-few}
-use Rattle.hazard.proofs.Minimal.{minimal}
+use Rattle.hazard.proofs.Minimal.{block-none, minimal}
 use Rattle.hazard.proofs.Promise.{promise-refused, promise-written}
 use Rattle.cube.specs.Entry.{requiredIn, privilegedIn, CleanWord}
 use Rattle.cube.specs.PointSet.{inSet}
@@ -29,22 +29,12 @@ use Rattle.choice.proofs.Keeping.{entry-of}
 use Rattle.minimiser.specs.Select.{Selected}
 use Rattle.minimiser.specs.Answer.{blockingOf, Answered}
 
--- A required cube that does not block grows to a dhf-implicant.
-grown-of : (n : ℕ) (off : ℕ → Bool) (vs : List sets.Privileged) (r : sets.Required) → blockCheck n off vs r ≡ none → Grown (grow n off vs (r .cube))
-grown-of n off vs r e = go (grow n off vs (r .cube)) e
-  where
-    go : (g : Growth) → _≡_ {A = Option Refusal} (elim g [
-      | Legal c s ↦ none
-      | Blocked z s ↦ some (record { number = 10; transition = r .transition; point = r .label; steps = s; lowest = z; product = 0 })
-    ]) none → Grown g
-    go (Legal c s) e = tt
-    go (Blocked z s) e = none-some (sym e)
-
+-- Required cubes that do not block grow to dhf-implicants.
 module _ (n : ℕ) (off privileged required : List ℕ) where
   pub all-grown : blockingOf n (inSet off) (map (privilegedIn n) privileged) (map (requiredIn n) required) ≡ none
       → (k : ℕ) → k < length required → Grown (grow n (inSet off) (map (privilegedIn n) privileged) (cubeIn n (getD required k 0)))
   all-grown e k l =
-      grown-of n (inSet off) (map (privilegedIn n) privileged) (requiredIn n (getD required k 0))
+      block-none n (inSet off) (map (privilegedIn n) privileged) (requiredIn n (getD required k 0)) .0
       (firstOf-map (blockCheck n (inSet off) (map (privilegedIn n) privileged)) (map (requiredIn n) required) .0 e (requiredIn n (getD required k 0)) (Memᴰ·map (requiredIn n) (entry-of required k l)))
 
 module _ (n : ℕ) (off : ℕ → Bool) (vs : List sets.Privileged) (rs : List sets.Required) where

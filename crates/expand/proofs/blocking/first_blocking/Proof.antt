@@ -5,12 +5,12 @@ use native.Mathlib.Omega.{arith}
 use lib.ListN.{length, getD}
 use borrow.Author.Needs.{needs}
 use Rattle.hazard.specs.Search.{firstOf}
-use Rattle.hazard.specs.Minimal.{blockCheck}
+use Rattle.hazard.specs.Minimal.{blockedBy, blockCheck}
 use Rattle.cube.specs.Entry.{requiredIn, privilegedIn}
 use Rattle.cube.specs.PointSet.{inSet}
 use Rattle.cube.proofs.Word.{stands-in}
 use Rattle.expand.specs.declared.growth.Grown.{Grown}
-use Rattle.expand.specs.Answer.{grownOf, blockedBy}
+use Rattle.expand.specs.Answer.{grownOf}
 use Rattle.expand.proofs.Words.{Left, left-start, left-end, check-hit, check-miss}
 use Rattle.expand.proofs.Outcome.{checked}
 use Rattle.expand.proofs.blocking.first_blocking.Statement.{statement}
