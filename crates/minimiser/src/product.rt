@@ -27,7 +27,8 @@ fn grown_over(n: usize, off: &[u64], privileged: &[u64], c: Cube, d: Cube) -> Cu
     absorbed(n, off, privileged, c, d)
 }
 
-// Supercube-dhf of required cube i, grown over the required cubes after it where that stays legal, and expanded to a dhf-prime.
+// Supercube-dhf of required cube i, grown over the required cubes after it where that stays legal, and expanded to a dhf-prime. The
+// growth over the others makes for fewer products; no promise rests on it.
 pub fn product_for(n: usize, off: &[u64], privileged: &[u64], required: &[u64], i: usize) -> Cube
     requires { ⌜ Ready n (now off) × (i < length (now required)) ⌝ }
     requires { ⌜ ((k : ℕ) → CleanWord n (getD (now required) k 0)) ⌝ }

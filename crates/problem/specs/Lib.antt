@@ -4,3 +4,4 @@ pub mod Label
 pub mod OffWord
 pub mod Ready
 pub mod Store
+pub mod Fault

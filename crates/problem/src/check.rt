@@ -7,15 +7,15 @@ ghost use lib.Dec.{leb};
 ghost use lib.ListN.{length};
 ghost use Rattle.hazard.specs.Search.{firstOf};
 ghost use Rattle.hazard.specs.Transition.{count};
-ghost use Rattle.hazard.specs.Refusal.{refusal, inputsCheck, lengthCheck, bytesCheck, listCheck, endsCheck, definedCheck, rulesCheck, manyCheck, inputChecks};
+ghost use Rattle.hazard.specs.Refusal.{refusal, inputsCheck, lengthCheck, bytesCheck, listCheck, endsCheck, manyCheck, inputChecks};
 ghost use Rattle.problem.specs.Answer.{checkedOf, senseChecks, transitionChecks};
+ghost use Rattle.problem.specs.Fault.{pointsCheck};
 ghost use Rattle.problem.specs.Ready.{Ready};
 use crate::refusal::Checked;
 use crate::refusal::refuse;
 use crate::required::count_required;
 use crate::scan::Found;
-use crate::scan::broken_at;
-use crate::scan::undefined_at;
+use crate::scan::fault_at;
 use crate::transition::end_of;
 use crate::transition::start_of;
 
@@ -111,36 +111,18 @@ fn check_ends(n: usize, transitions: &[u16]) -> Checked
     Checked::Accepted
 }
 
-// 6: a don't care in some [A,B]; the first such transition, the lowest point.
-fn check_defined(n: usize, table: &[u8], transitions: &[u16]) -> Checked
+// 6: a don't care in some [A,B]; or 7: the rule of the kind is broken. The first such transition, the lowest point.
+fn check_points(number: u16, n: usize, table: &[u8], transitions: &[u16]) -> Checked
     requires { ⌜ Ready n (now table) (now transitions) ⌝ }
-    ensures { λ r. ⌜ checkedOf r ≡ definedCheck n (now (table .entry)) (now (transitions .entry)) ⌝ }
+    ensures { λ r. ⌜ checkedOf r ≡ pointsCheck number n (now (table .entry)) (now (transitions .entry)) ⌝ }
 {
     let count = transitions.len() / 2;
     let mut t = 0;
     while t < count {
         let a = start_of(transitions, t);
         let b = end_of(transitions, t);
-        if let Found::At(x) = undefined_at(n, table, a, b) {
-            return refused(6, t as u16, x);
-        }
-        t += 1;
-    }
-    Checked::Accepted
-}
-
-// 7: the rule of the kind is broken; the first such transition, the lowest point.
-fn check_rules(n: usize, table: &[u8], transitions: &[u16]) -> Checked
-    requires { ⌜ Ready n (now table) (now transitions) ⌝ }
-    ensures { λ r. ⌜ checkedOf r ≡ rulesCheck n (now (table .entry)) (now (transitions .entry)) ⌝ }
-{
-    let count = transitions.len() / 2;
-    let mut t = 0;
-    while t < count {
-        let a = start_of(transitions, t);
-        let b = end_of(transitions, t);
-        if let Found::At(x) = broken_at(n, table, a, b) {
-            return refused(7, t as u16, x);
+        if let Found::At(x) = fault_at(number, n, table, a, b) {
+            return refused(number, t as u16, x);
         }
         t += 1;
     }
@@ -163,10 +145,10 @@ fn check_sense(n: usize, table: &[u8], transitions: &[u16]) -> Checked
     requires { ⌜ Ready n (now table) (now transitions) ⌝ }
     ensures { λ r. ⌜ checkedOf r ≡ firstOf (senseChecks n (now (table .entry)) (now (transitions .entry))) ⌝ }
 {
-    if let Checked::Refused(r) = check_defined(n, table, transitions) {
+    if let Checked::Refused(r) = check_points(6, n, table, transitions) {
         return Checked::Refused(r);
     }
-    if let Checked::Refused(r) = check_rules(n, table, transitions) {
+    if let Checked::Refused(r) = check_points(7, n, table, transitions) {
         return Checked::Refused(r);
     }
     check_many(n, table, transitions)

@@ -4,6 +4,7 @@ ghost use Prim.Native.Nat.{_≤_, _<_, _^_};
 ghost use lib.ListN.{length};
 ghost use Rattle.hazard.specs.Transition.{turnsBack, breaks, undefinedAt, brokenAt};
 ghost use Rattle.problem.specs.Codes.{kindIs, foundOf};
+ghost use Rattle.problem.specs.Fault.{faultAt};
 use crate::further::goes_further;
 use crate::kind::Kind;
 use crate::kind::kind_of;
@@ -41,7 +42,7 @@ fn breaks_rule(n: usize, table: &[u8], k: Kind, a: u16, b: u16, x: u16) -> bool
 }
 
 // The lowest point of [A,B] that is don't care.
-pub fn undefined_at(n: usize, table: &[u8], a: u16, b: u16) -> Found
+fn undefined_at(n: usize, table: &[u8], a: u16, b: u16) -> Found
     requires { ⌜ (n ≤ 10) × (length (now table) ≡ 2 ^ n) × (a < 2 ^ n) × (b < 2 ^ n) ⌝ }
     ensures { λ r. ⌜ foundOf r ≡ undefinedAt n (now (table .entry)) a b ⌝ }
 {
@@ -57,7 +58,7 @@ pub fn undefined_at(n: usize, table: &[u8], a: u16, b: u16) -> Found
 }
 
 // The lowest point of [A,B] where the rule of its kind is broken.
-pub fn broken_at(n: usize, table: &[u8], a: u16, b: u16) -> Found
+fn broken_at(n: usize, table: &[u8], a: u16, b: u16) -> Found
     requires { ⌜ (n ≤ 10) × (length (now table) ≡ 2 ^ n) × (a < 2 ^ n) × (b < 2 ^ n) ⌝ }
     ensures { λ r. ⌜ foundOf r ≡ brokenAt n (now (table .entry)) a b ⌝ }
 {
@@ -72,4 +73,15 @@ pub fn broken_at(n: usize, table: &[u8], a: u16, b: u16) -> Found
         x = next(n, c, x);
     }
     Found::Nothing
+}
+
+// What check 6 finds in a transition cube, or check 7.
+pub fn fault_at(number: u16, n: usize, table: &[u8], a: u16, b: u16) -> Found
+    requires { ⌜ (n ≤ 10) × (length (now table) ≡ 2 ^ n) × (a < 2 ^ n) × (b < 2 ^ n) ⌝ }
+    ensures { λ r. ⌜ foundOf r ≡ faultAt number n (now (table .entry)) a b ⌝ }
+{
+    if number == 6 {
+        return undefined_at(n, table, a, b);
+    }
+    broken_at(n, table, a, b)
 }

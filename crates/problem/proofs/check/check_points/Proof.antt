@@ -4,21 +4,22 @@ use Prim.Native.Nat.{_+_, _-_, _*_}
 use native.Mathlib.Omega.{arith}
 use Rattle.hazard.specs.Search.{firstPlace}
 use Rattle.hazard.specs.Transition as spec
-use Rattle.hazard.specs.Transition.{start, end, undefinedAt}
+use Rattle.hazard.specs.Transition.{start, end}
 use Rattle.hazard.specs.Refusal.{refusal}
 use Rattle.cube.proofs.Scan.{Places, places-start, places-hit, places-miss, places-end}
 use Rattle.problem.specs.Codes.{foundOf}
+use Rattle.problem.specs.Fault.{faultAt}
 use borrow.Author.Needs.{needs}
-use Rattle.problem.proofs.check.check_defined.Statement.{statement}
-use Rattle.problem.proofs.check.check_defined.Tie as tie
+use Rattle.problem.proofs.check.check_points.Statement.{statement}
+use Rattle.problem.proofs.check.check_points.Tie as tie
 
 abbrev Inv-loop : tie.InvT-loop
-Inv-loop n table transitions count t₀ t =
-    Places (λ k. undefinedAt n table (start transitions k) (end transitions k)) (spec.count transitions) t
-    (firstPlace (λ k. undefinedAt n table (start transitions k) (end transitions k)) 0 (spec.count transitions))
+Inv-loop number n table transitions count t₀ t =
+    Places (λ k. faultAt number n table (start transitions k) (end transitions k)) (spec.count transitions) t
+    (firstPlace (λ k. faultAt number n table (start transitions k) (end transitions k)) 0 (spec.count transitions))
 
 abbrev μ-loop : tie.MeasureT-loop
-μ-loop n table transitions count t₀ t = spec.count transitions - t
+μ-loop number n table transitions count t₀ t = spec.count transitions - t
 
 loop-holds : tie.Need-loop-holds Inv-loop μ-loop
 loop-holds c = places-start _ _
@@ -29,8 +30,8 @@ start-of-requires c κs = search needs
 end-of-requires : tie.Need-end-of-requires Inv-loop μ-loop
 end-of-requires c κs = search needs
 
-undefined-at-requires : tie.Need-undefined-at-requires Inv-loop μ-loop
-undefined-at-requires c κs =
+fault-at-requires : tie.Need-fault-at-requires Inv-loop μ-loop
+fault-at-requires c κs =
     let s = c .before .before .before .before .before .before in
     (s .pre .small, s .pre .whole, omega (arith, c .before .start-of .ensures, s .pre .within (2 * c .before .before .before .loop .t)), omega (arith, c .end-of .ensures, s .pre .within (2 * c .before .before .before .loop .t + 1)))
 
@@ -44,11 +45,13 @@ refused-requires : tie.Need-refused-requires Inv-loop μ-loop
 refused-requires c κs = search needs
 
 -- What was found between the definition's ends.
-looked : (c : tie.After-undefined-at Inv-loop μ-loop) → let a = c .before .before .before .before .before .before .before .args in undefinedAt (a .n) (a .table .now) (start (a .transitions .now) (c .before .before .before .before .loop .t)) (end (a .transitions .now) (c .before .before .before .before .loop .t)) ≡ foundOf (c .undefined-at .result)
-looked c = ap₂ (undefinedAt (c .before .before .before .before .before .before .before .args .n) (c .before .before .before .before .before .before .before .args .table .now)) (sym (c .before .before .start-of .ensures)) (sym (c .before .end-of .ensures)) ∙ sym (c .undefined-at .ensures)
+looked : (c : tie.After-fault-at Inv-loop μ-loop) → let a = c .before .before .before .before .before .before .before .args in faultAt (a .number) (a .n) (a .table .now) (start (a .transitions .now) (c .before .before .before .before .loop .t)) (end (a .transitions .now) (c .before .before .before .before .loop .t)) ≡ foundOf (c .fault-at .result)
+looked c = ap₂ (faultAt (c .before .before .before .before .before .before .before .args .number) (c .before .before .before .before .before .before .before .args .n) (c .before .before .before .before .before .before .before .args .table .now)) (sym (c .before .before .start-of .ensures)) (sym (c .before .end-of .ensures)) ∙ sym (c .fault-at .ensures)
 
 returns : tie.Need-returns Inv-loop μ-loop
-returns c = c .refused .ensures ∙ ap (Option·map (λ p. refusal 6 (p .0) (p .1))) (places-hit (c .before .before .before .before .before .before .before .before .loop .inv) (omega arith) (looked (c .before .before .before .before) ∙ ap foundOf (c .before .before .x .given .1)))
+returns c =
+    let a = c .before .before .before .before .before .before .before .before .before .before .before .args in
+    c .refused .ensures ∙ ap (Option·map (λ p. refusal (a .number) (p .0) (p .1))) (places-hit (c .before .before .before .before .before .before .before .before .loop .inv) (omega arith) (looked (c .before .before .before .before) ∙ ap foundOf (c .before .before .x .given .1)))
 
 enum-told : tie.Need-enum-told Inv-loop μ-loop
 enum-told c = search needs
@@ -63,10 +66,10 @@ loop-again : tie.Need-loop-again Inv-loop μ-loop
 loop-again c = places-miss (c .before .before .before .before .before .before .loop .inv) (omega arith) (looked (c .before .before) ∙ ap foundOf (c .enum-told .given .1))
 
 returns-2 : tie.Need-returns-2 Inv-loop μ-loop
-returns-2 c = ap (Option·map (λ p. refusal 6 (p .0) (p .1))) (places-end (c .before .loop .inv) (omega arith))
+returns-2 c = ap (Option·map (λ p. refusal (c .before .before .before .before .args .number) (p .0) (p .1))) (places-end (c .before .loop .inv) (omega arith))
 
-pub check-defined-spec : {M : Type 1} → statement M
-check-defined-spec =
+pub check-points-spec : {M : Type 1} → statement M
+check-points-spec =
     tie.close
     (tie.spec
     Inv-loop
@@ -74,7 +77,7 @@ check-defined-spec =
     loop-holds
     start-of-requires
     end-of-requires
-    undefined-at-requires
+    fault-at-requires
     enum-known-x
     cast-refused
     refused-requires
