@@ -1,28 +1,21 @@
 -- Packed words as entries.
-use mathlib.Core.Path.{_≡_, sym, ap, ap₂, _∙_}
-use Prim.Native.Nat.{ℕ, _<_, _^_}
-use native.Mathlib.Omega.{arith}
-use lib.Bits.{bitAnd}
+use mathlib.Core.Path.{_≡_, ap, ap₂, _∙_}
+use Prim.Native.Nat.{ℕ}
 use Rattle.hazard.specs.Cube as digits
 use Rattle.hazard.specs.Sets.{Required, Privileged}
 use Rattle.cube.specs.declared.mask.Cube.{Cube}
-use Rattle.cube.specs.Mask.{digitsOf, Stands}
-use Rattle.cube.specs.Entry.{requiredIn, privilegedIn, Packed, CleanWord}
+use Rattle.cube.specs.Mask.{Stands}
+use Rattle.cube.specs.Entry.{requiredIn, privilegedIn, Packed}
+use Rattle.cube.proofs.Word.{packed-is}
 
 -- The entry that a packed word is.
 module _ {n w t x : ℕ} {c : Cube} {ds : digits.Cube} (p : Packed w t x (c .care) (c .value)) (s : Stands n c ds) where
-  word-cube : (requiredIn n w) .cube ≡ ds
-  word-cube = ap₂ (digitsOf n) (p .care·) (p .value·) ∙ s .is
-
   pub word-required : _≡_ {A = Required} (requiredIn n w) (record { transition = t; label = x; cube = ds })
   word-required =
       ap (λ (k : ℕ). record { transition = k; label = (requiredIn n w) .label; cube = (requiredIn n w) .cube }) (p .transition·)
-      ∙ ap₂ (λ (y : ℕ) (d : digits.Cube). record { transition = t; label = y; cube = d }) (p .point·) word-cube
+      ∙ ap₂ (λ (y : ℕ) (d : digits.Cube). record { transition = t; label = y; cube = d }) (p .point·) (packed-is p s)
 
   pub word-privileged : _≡_ {A = Privileged} (privilegedIn n w) (record { transition = t; cube = ds; start = x })
   word-privileged =
       ap (λ (k : ℕ). record { transition = k; cube = (requiredIn n w) .cube; start = (requiredIn n w) .label }) (p .transition·)
-      ∙ ap₂ (λ (y : ℕ) (d : digits.Cube). record { transition = t; cube = d; start = y }) (p .point·) word-cube
-
-  pub word-clean : x < 2 ^ n → CleanWord n w
-  word-clean l = record { small = omega (arith, p .care·, s .fits .small); clean = ap₂ bitAnd (p .value·) (p .care·) ∙ s .fits .clean ∙ sym (p .value·); point = omega (arith, p .point·) }
+      ∙ ap₂ (λ (y : ℕ) (d : digits.Cube). record { transition = t; cube = d; start = y }) (p .point·) (packed-is p s)

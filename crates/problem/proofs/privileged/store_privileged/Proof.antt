@@ -5,7 +5,8 @@ use Rattle.hazard.specs.Cube.{span}
 use Rattle.hazard.specs.Transition.{kind}
 use Rattle.hazard.specs.Sets.{dynamic, startPoint}
 use Rattle.problem.specs.Store.{privilegedFor}
-use Rattle.problem.proofs.Word.{word-privileged, word-clean}
+use Rattle.problem.proofs.Word.{word-privileged}
+use Rattle.cube.proofs.Word.{packed-clean}
 use Rattle.problem.proofs.Gather.{start-lt, stored-one, stored-yes, stored-no}
 use borrow.Author.Needs.{needs}
 use Rattle.problem.proofs.privileged.store_privileged.Statement.{statement}
@@ -52,7 +53,7 @@ returns c =
     let a = s .args in
     let small : c .before .before .start-point .result < 2 ^ (a .n) = omega (arith, started (c .before .before), start-lt (kind (a .table .now) (a .a) (a .b)) (a .a) (a .b) (s .pre .2) (s .pre .3)) in
     stored-yes (tested (c .before .before .before .before) ∙ c .before .before .before .if1 .taken)
-    (stored-one (a .out .now) (a .at) (c .pack .result) (s .pre .4) (word-clean (c .pack .ensures) (c .before .span-of .ensures) small)
+    (stored-one (a .out .now) (a .at) (c .pack .result) (s .pre .4) (packed-clean (c .pack .ensures) (c .before .span-of .ensures) small)
     (word-privileged (c .pack .ensures) (c .before .span-of .ensures) ∙ ap (λ (x : ℕ). record { transition = a .t; cube = span (a .n) (a .a) (a .b); start = x }) (started (c .before .before))))
 
 returns-2 : tie.Need-returns-2

@@ -1,4 +1,5 @@
-use Rattle.problem.proofs.Word.{word-required, word-clean}
+use Rattle.problem.proofs.Word.{word-required}
+use Rattle.cube.proofs.Word.{packed-clean}
 use Rattle.problem.proofs.Gather.{stored-one}
 use borrow.Author.Needs.{needs}
 use Rattle.problem.proofs.required.store.Statement.{statement}
@@ -25,7 +26,7 @@ same-length c = search needs
 returns : tie.Need-returns
 returns c =
     let s = c .before .before .before in
-    stored-one (s .args .out .now) (s .args .at) (c .pack .result) (s .pre .3) (word-clean (c .pack .ensures) (c .before .span-of .ensures) (s .pre .2)) (word-required (c .pack .ensures) (c .before .span-of .ensures))
+    stored-one (s .args .out .now) (s .args .at) (c .pack .result) (s .pre .3) (packed-clean (c .pack .ensures) (c .before .span-of .ensures) (s .pre .2)) (word-required (c .pack .ensures) (c .before .span-of .ensures))
 
 pub store-spec : {M : Type 1} → statement M
 store-spec =
