@@ -12,10 +12,7 @@ use Rattle.hazard.specs.Cube.{Cube, join}
 use Rattle.hazard.specs.Sets.{Privileged}
 use Rattle.hazard.specs.Implicant.{illegal, lowestZero}
 use Rattle.hazard.specs.Growth.{Growth, Legal, Blocked, growFrom, grow}
-
--- One step more is left.
-left : (n s : ℕ) → s < n → n - s ≡ suc (n - (s + 1))
-left n s h = omega arith
+use Rattle.cube.proofs.Scan.{left}
 
 module _ (n : ℕ) (off : ℕ → Bool) (vs : List Privileged) where
   -- The whole answer g is what growth gives from the cube c, s steps on.
