@@ -1,0 +1,39 @@
+-- Decimal digits, one after another.
+use mathlib.Core.Path.{_≡_, refl, sym, ap, _∙_}
+use mathlib.Core.Bool.{Bool, true, false, cond}
+use mathlib.Core.List.{List, [], _∷_, _++_, append-assoc}
+use Prim.Native.Nat.{ℕ, zero, suc, _+_, _*_, _/_, _%_, _^_, _≤_, _<_}
+use native.Mathlib.Nat.{pow-suc}
+use native.Mathlib.Decide.{decLt}
+use native.Mathlib.Omega.{arith}
+use lib.Dec.{ltb}
+use lib.ListN.{length, length-append}
+use borrow.Author.Tests.{lt-ltb, le-ltb, ltb-true, ltb-false}
+use Rattle.quiet_text.specs.Decimal.{digit, spelled, decimal}
+
+-- A number below 10 is its digit.
+pub spelled-digit : (k x : ℕ) → x < 10 → spelled (suc k) x ≡ digit x ∷ []
+spelled-digit k x h = rw (lt-ltb x 10 h)
+
+-- Any other is the number without its last digit, and that digit.
+pub spelled-last : (k x : ℕ) → 10 ≤ x → spelled (suc k) x ≡ spelled k (x / 10) ++ (digit (x % 10) ∷ [])
+spelled-last k x h = rw (le-ltb x 10 h)
+
+-- Room for more digits changes nothing.
+spelled-room : (k x : ℕ) → x < 10 ^ suc k → spelled (suc (suc k)) x ≡ spelled (suc k) x
+spelled-room zero x h = spelled-digit 1 x h ∙ sym (spelled-digit 0 x h)
+spelled-room (suc k) x h =
+    elim (decLt x 10) [
+      | yes l ↦ spelled-digit (suc (suc k)) x l ∙ sym (spelled-digit (suc k) x l)
+      | no g ↦
+        let e = pow-suc 10 (suc k) in
+        let l : x / 10 < 10 ^ suc k = omega (arith, e) in
+        spelled-last (suc (suc k)) x (omega arith) ∙ ap (λ (s : List ℕ). s ++ (digit (x % 10) ∷ [])) (spelled-room k (x / 10) l) ∙ sym (spelled-last (suc k) x (omega arith))
+    ]
+
+-- A digit more at a number's end.
+pub decimal-digit : (x d : ℕ) → 0 < x → x < 10000 → d < 10 → decimal (x * 10 + d) ≡ decimal x ++ (digit d ∷ [])
+decimal-digit x d p h l =
+    let q : (x * 10 + d) / 10 ≡ x = omega arith in
+    let r : (x * 10 + d) % 10 ≡ d = omega arith in
+    spelled-last 4 (x * 10 + d) (omega arith) ∙ rw (q, r, spelled-room 3 x h)

@@ -1,0 +1,5 @@
+pub mod Decimal
+pub mod Form
+pub mod Output
+pub mod Wrote
+pub mod Read
