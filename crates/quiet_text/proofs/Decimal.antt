@@ -37,3 +37,7 @@ decimal-digit x d p h l =
     let q : (x * 10 + d) / 10 ≡ x = omega arith in
     let r : (x * 10 + d) % 10 ≡ d = omega arith in
     spelled-last 4 (x * 10 + d) (omega arith) ∙ rw (q, r, spelled-room 3 x h)
+
+-- At least one digit.
+pub decimal-long : (x : ℕ) → 0 < length (decimal x)
+decimal-long x = elim (decLt x 10) [ yes l ↦ rw (spelled-digit 4 x l) (omega arith) | no g ↦ rw (spelled-last 4 x (omega arith), length-append (spelled 4 (x / 10)) (digit (x % 10) ∷ [])) (omega arith) ]

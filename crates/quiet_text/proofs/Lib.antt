@@ -4,3 +4,6 @@ pub mod Transitions
 pub mod Tables
 pub mod Forms
 pub mod Digits
+pub mod Ends
+pub mod Cells
+pub mod Listing

@@ -9,13 +9,9 @@ use lib.Dec.{eqb}
 use lib.ListN.{length, getD}
 use borrow.Author.Tests.{eqb-true}
 use Rattle.hazard.proofs.Search.{none-some}
-use Rattle.quiet_text.specs.Form.{newline, cell}
+use Rattle.quiet_text.specs.Form.{newline, cell, Values}
 use Rattle.quiet_text.specs.Read.{andThen, valueOf, tableLine}
 use Rattle.quiet_text.proofs.Numbers.{then-known}
-
--- Every value of the table is 0, 1 or 2.
-abbrev pub Values : List ℕ → Type 0
-Values f = (x : ℕ) → getD f x 0 ≤ 2
 
 -- A value's character stands for the value, and is no newline.
 value-cell : (d : ℕ) → d ≤ 2 → valueOf (cell d) ≡ some d

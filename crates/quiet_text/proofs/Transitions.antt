@@ -8,7 +8,7 @@ use native.Mathlib.Omega.{arith}
 use lib.ListN.{length, getD, length-append}
 use Rattle.hazard.proofs.Search.{none-some}
 use Rattle.quiet_text.specs.Decimal.{decimal}
-use Rattle.quiet_text.specs.Form.{newline, space, transitionLines, flat}
+use Rattle.quiet_text.specs.Form.{newline, space, transitionLines, flat, Numbers}
 use Rattle.quiet_text.specs.Read.{andThen, fieldBy, transitionLine}
 use Rattle.quiet_text.proofs.Numbers.{Spelled, then-known, field-read, field-spelled}
 
@@ -23,6 +23,20 @@ line-read a b cs h k =
     ap (λ (o : Option (ℕ × List ℕ)). andThen o (λ p. andThen (fieldBy newline (p .1)) (λ q. some (p .0, q .0, q .1)))) (field-read space a (decimal b ++ (newline ∷ cs)) refl h)
     ∙ ap (λ (o : Option (ℕ × List ℕ)). andThen o (λ q. some (a, q .0, q .1))) (field-read newline b cs refl k)
 
+-- A line, from its two numbers.
+pub line-none : (cs : List ℕ) → none ≡ fieldBy space cs → none ≡ transitionLine cs
+line-none cs h = ap (λ (o : Option (ℕ × List ℕ)). andThen o (λ p. andThen (fieldBy newline (p .1)) (λ q. some (p .0, q .0, q .1)))) h
+
+module _ (cs : List ℕ) (a : ℕ) (ds : List ℕ) (h : some (a, ds) ≡ fieldBy space cs) where
+  line-second : andThen (fieldBy newline ds) (λ q. some (a, q .0, q .1)) ≡ transitionLine cs
+  line-second = ap (λ (o : Option (ℕ × List ℕ)). andThen o (λ p. andThen (fieldBy newline (p .1)) (λ q. some (p .0, q .0, q .1)))) h
+
+  pub line-half : none ≡ fieldBy newline ds → none ≡ transitionLine cs
+  line-half k = ap (λ (o : Option (ℕ × List ℕ)). andThen o (λ q. some (a, q .0, q .1))) k ∙ line-second
+
+  pub line-whole : (b : ℕ) (es : List ℕ) → some (b, es) ≡ fieldBy newline ds → some (a, b, es) ≡ transitionLine cs
+  line-whole b es k = ap (λ (o : Option (ℕ × List ℕ)). andThen o (λ q. some (a, q .0, q .1))) k ∙ line-second
+
 pub line-spelled : (cs : List ℕ) {a b : ℕ} {rest : List ℕ} → transitionLine cs ≡ some (a, b, rest) → Line cs a b rest
 line-spelled cs {a} {b} {rest} h =
     let (p, q, r) = then-known (fieldBy space cs) (λ p. andThen (fieldBy newline (p .1)) (λ q. some (p .0, q .0, q .1))) h in
@@ -36,10 +50,6 @@ line-spelled cs {a} {b} {rest} h =
       is = s .is ∙ ap (λ (r : List ℕ). decimal (p .0) ++ (space ∷ r)) (t .is) ∙ ap (λ (l : ℕ × ℕ × List ℕ). decimal (l .0) ++ (space ∷ decimal (l .1) ++ (newline ∷ l .2))) l;
       start = omega (arith, s .below); end = omega (arith, t .below) }
 
--- Every number of the transitions is below 65536.
-abbrev pub Numbers : List (ℕ × ℕ) → Type 0
-Numbers ps = (k : ℕ) → getD (flat ps) k 0 < 65536
-
 -- The first of several lines is read.
 lines-read : (p : ℕ × ℕ) (ps : List (ℕ × ℕ)) (cs : List ℕ) → Numbers (p ∷ ps) → transitionLine (transitionLines (p ∷ ps) ++ cs) ≡ some (p .0, p .1, transitionLines ps ++ cs)
 lines-read p ps cs u =
@@ -51,14 +61,14 @@ lines-here : (p : ℕ × ℕ) (ps : List (ℕ × ℕ)) → Numbers (p ∷ ps) �
 lines-here p ps u = line-read (p .0) (p .1) (transitionLines ps) (u 0) (u 1)
 
 -- Lines of whole transitions before a text are read off it.
-pub lines-prefix : (ps qs : List (ℕ × ℕ)) (cs : List ℕ) → Numbers ps → Numbers qs → transitionLines qs ≡ transitionLines ps ++ cs → (rs : List (ℕ × ℕ)) × (qs ≡ ps ++ rs) × (cs ≡ transitionLines rs)
-lines-prefix [] qs cs u v e = (qs, refl, sym e)
+pub lines-prefix : (ps qs : List (ℕ × ℕ)) (cs : List ℕ) → Numbers ps → Numbers qs → transitionLines qs ≡ transitionLines ps ++ cs → (rs : List (ℕ × ℕ)) × (qs ≡ ps ++ rs) × (cs ≡ transitionLines rs) × Numbers rs
+lines-prefix [] qs cs u v e = (qs, refl, sym e, v)
 lines-prefix (p ∷ ps) [] cs u v e = none-some (ap transitionLine e ∙ lines-read p ps cs u)
 lines-prefix (p ∷ ps) (q ∷ qs) cs u v e =
     let l : _≡_ {A = ℕ × ℕ × List ℕ} (q .0, q .1, transitionLines qs) (p .0, p .1, transitionLines ps ++ cs) = Option·some-injective _ _ (sym (lines-here q qs v) ∙ ap transitionLine e ∙ lines-read p ps cs u) in
     let i : q ≡ p = ap (λ (l : ℕ × ℕ × List ℕ). (l .0, l .1)) l in
-    let (rs, j, k) = lines-prefix ps qs cs (λ k. u (suc (suc k))) (λ k. v (suc (suc k))) (ap (λ (l : ℕ × ℕ × List ℕ). l .2) l) in
-    (rs, ap₂ (λ (q : ℕ × ℕ) (qs : List (ℕ × ℕ)). q ∷ qs) i j, k)
+    let (rs, j, k, w) = lines-prefix ps qs cs (λ k. u (suc (suc k))) (λ k. v (suc (suc k))) (ap (λ (l : ℕ × ℕ × List ℕ). l .2) l) in
+    (rs, ap₂ (λ (q : ℕ × ℕ) (qs : List (ℕ × ℕ)). q ∷ qs) i j, k, w)
 
 -- A text that begins with no transition's line is no list of lines, unless it is empty.
 pub lines-none : (qs : List (ℕ × ℕ)) {c : ℕ} {cs : List ℕ} → Numbers qs → transitionLine (c ∷ cs) ≡ none → ¬ (c ∷ cs ≡ transitionLines qs)
@@ -67,7 +77,7 @@ lines-none (q ∷ qs) u h e = none-some (sym h ∙ ap transitionLine e ∙ lines
 
 -- So the lines of transitions tell which they are.
 pub lines-unique : (ps qs : List (ℕ × ℕ)) → Numbers ps → Numbers qs → transitionLines ps ≡ transitionLines qs → ps ≡ qs
-lines-unique ps qs u v e = let (rs, j, k) = lines-prefix ps qs [] u v (sym e ∙ sym (append-nil (transitionLines ps))) in go rs j k
+lines-unique ps qs u v e = let (rs, j, k, w) = lines-prefix ps qs [] u v (sym e ∙ sym (append-nil (transitionLines ps))) in go rs j k
   where
     go : (rs : List (ℕ × ℕ)) → qs ≡ ps ++ rs → [] ≡ transitionLines rs → ps ≡ qs
     go [] j k = sym (j ∙ append-nil ps)

@@ -31,6 +31,14 @@ abbrev pub flat : List (ℕ × ℕ) → List ℕ
 flat [] = []
 flat (p ∷ ps) = p .0 ∷ p .1 ∷ flat ps
 
+-- Every value of the table is 0, 1 or 2.
+abbrev pub Values : List ℕ → Type 0
+Values f = (x : ℕ) → getD f x 0 ≤ 2
+
+-- Every number of the transitions is at most 65535.
+abbrev pub Numbers : List (ℕ × ℕ) → Type 0
+Numbers ps = (k : ℕ) → getD (flat ps) k 0 < 65536
+
 -- The text is of the form: at most 4,096 bytes that are the printed form of a number of inputs, a table of one or more values and a
 -- list of transitions, with numbers from 0 to 65535.
 pub record Form (text : List ℕ) (n : ℕ) (f : List ℕ) (ps : List (ℕ × ℕ)) : Type 0 where
@@ -38,8 +46,8 @@ pub record Form (text : List ℕ) (n : ℕ) (f : List ℕ) (ps : List (ℕ × �
   pub short : length text ≤ 4096
   pub inputs : n < 65536
   pub filled : 0 < length f
-  pub values : (x : ℕ) → getD f x 0 ≤ 2
-  pub numbers : (k : ℕ) → getD (flat ps) k 0 < 65536
+  pub values : Values f
+  pub numbers : Numbers ps
 
 abbrev pub Formed : List ℕ → Type 0
 Formed text = (n : ℕ) × (f : List ℕ) × (ps : List (ℕ × ℕ)) × Form text n f ps

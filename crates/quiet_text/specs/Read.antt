@@ -6,11 +6,19 @@ use mathlib.Core.Option.{Option, none, some}
 use Prim.Native.Nat.{ℕ, _+_, _*_, _-_, _≤_}
 use lib.Dec.{eqb, leb, ltb}
 use lib.ListN.{length, take, drop}
-use Rattle.quiet_text.specs.Form.{newline, space, Form, Formed, flat}
+use Rattle.quiet_text.specs.Form.{newline, space, transitionLines, flat, Numbers, Form, Formed}
 use Rattle.quiet_text.specs.declared.number.Number.{Number}
 use Rattle.quiet_text.specs.declared.number.Number.the-variants.{Found, Nothing}
 use Rattle.quiet_text.specs.declared.number.Longer.{Longer}
 use Rattle.quiet_text.specs.declared.number.Longer.the-variants as longer
+use Rattle.quiet_text.specs.declared.transition.Line.{Line}
+use Rattle.quiet_text.specs.declared.transition.Line.the-variants as line
+use Rattle.quiet_text.specs.declared.table.Cell.{Cell}
+use Rattle.quiet_text.specs.declared.table.Cell.the-variants as cell
+use Rattle.quiet_text.specs.declared.count.Count.{Count}
+use Rattle.quiet_text.specs.declared.count.Count.the-variants as count
+use Rattle.quiet_text.specs.declared.read.Read.{Read}
+use Rattle.quiet_text.specs.declared.read.Read.the-variants as read
 
 -- What is found in what was found.
 abbrev pub andThen : {A B : Type 0} → Option A → (A → Option B) → Option B
@@ -69,3 +77,35 @@ numberOf text Nothing = none
 abbrev pub nextOf : Number → ℕ
 nextOf (Found x next) = next
 nextOf Nothing = 0
+
+-- The same for a line of the code's.
+abbrev pub lineOf : List ℕ → Line → Option (ℕ × ℕ × List ℕ)
+lineOf text (line.Found a b next) = some (a, b, drop next text)
+lineOf text line.Nothing = none
+
+abbrev pub afterLine : Line → ℕ
+afterLine (line.Found a b next) = next
+afterLine line.Nothing = 0
+
+abbrev pub cellOf : Cell → Option ℕ
+cellOf (cell.Value d) = some d
+cellOf cell.Nothing = none
+
+-- A table of the code's: so many bytes of the lent room, and what is left of the text after its line.
+abbrev pub tableOf : List ℕ → ℕ → List ℕ → Count → Option (List ℕ × List ℕ)
+tableOf text from table (count.Of k) = some (take k table, drop (from + k + 1) text)
+tableOf text from table count.Nothing = none
+
+abbrev pub afterTable : ℕ → Count → ℕ
+afterTable from (count.Of k) = from + k + 1
+afterTable from count.Nothing = 0
+
+-- The text is lines of transitions, whose numbers are the first k of ts; or it is none.
+pub data Lines (cs ts : List ℕ) : Count → Type 0 where
+  lines : {k : ℕ} (ps : List (ℕ × ℕ)) → cs ≡ transitionLines ps → Numbers ps → take k ts ≡ flat ps → k ≤ length ts → Lines cs ts (count.Of k)
+  other : ((ps : List (ℕ × ℕ)) → Numbers ps → ¬ (cs ≡ transitionLines ps)) → Lines cs ts count.Nothing
+
+-- The text is of the form, its table is the first k of f and its transitions are the first t of ts; or it is not.
+pub data Reading (text f ts : List ℕ) : Read → Type 0 where
+  problem : {n k t : ℕ} (ps : List (ℕ × ℕ)) → Form text n (take k f) ps → take t ts ≡ flat ps → k ≤ length f → t ≤ length ts → Reading text f ts (read.Problem n k t)
+  malformed : ¬ Formed text → Reading text f ts read.Malformed

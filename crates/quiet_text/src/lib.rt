@@ -1,2 +1,7 @@
 // Text in, text out: the form of a problem, and the form of the minimiser's answer.
+pub mod count;
+pub mod field;
 pub mod number;
+pub mod read;
+pub mod table;
+pub mod transition;
