@@ -53,6 +53,6 @@ module _ {text : List ℕ} {from : ℕ} {before room : List ℕ} {k : ℕ} (s : 
           low = omega arith;
           long = length-set room k d ∙ s .long;
           rest = here ∙ ap (prefixed (take k room)) (table-value (getD text (from + k) 0) (drop (suc (from + k)) text) (ne-eqb _ _ n) (sym e))
-          ∙ prefixed-twice (take k room) (d ∷ []) (tableLine (drop (suc (from + k)) text)) ∙ ap (λ (g : List ℕ). prefixed g (tableLine (drop (suc (from + k)) text))) (sym (take-suc-set room k d l))
-          ∙ rw (add-one, add-suc);
+              ∙ prefixed-twice (take k room) (d ∷ []) (tableLine (drop (suc (from + k)) text)) ∙ ap (λ (g : List ℕ). prefixed g (tableLine (drop (suc (from + k)) text))) (sym (take-suc-set room k d l))
+              ∙ rw (add-one, add-suc);
         }

@@ -26,9 +26,9 @@ spelled-room (suc k) x h =
     elim (decLt x 10) [
       | yes l ↦ spelled-digit (suc (suc k)) x l ∙ sym (spelled-digit (suc k) x l)
       | no g ↦
-        let e = pow-suc 10 (suc k) in
-        let l : x / 10 < 10 ^ suc k = omega (arith, e) in
-        spelled-last (suc (suc k)) x (omega arith) ∙ ap (λ (s : List ℕ). s ++ (digit (x % 10) ∷ [])) (spelled-room k (x / 10) l) ∙ sym (spelled-last (suc k) x (omega arith))
+          let e = pow-suc 10 (suc k) in
+          let l : x / 10 < 10 ^ suc k = omega (arith, e) in
+          spelled-last (suc (suc k)) x (omega arith) ∙ ap (λ (s : List ℕ). s ++ (digit (x % 10) ∷ [])) (spelled-room k (x / 10) l) ∙ sym (spelled-last (suc k) x (omega arith))
     ]
 
 -- A digit more at a number's end.

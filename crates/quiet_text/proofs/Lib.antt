@@ -7,3 +7,4 @@ pub mod Digits
 pub mod Ends
 pub mod Cells
 pub mod Listing
+pub mod Readings

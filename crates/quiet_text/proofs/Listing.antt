@@ -67,7 +67,7 @@ module _ {text : List ℕ} {from : ℕ} {before room : List ℕ} {k at : ℕ} (s
   pub listing-none : at < length text → none ≡ transitionLine (drop at text) → Lines (drop from text) room count.Nothing
   listing-none h e =
       other (λ qs u q. let (rs, i, j, w) = lines-prefix (s .ps) qs (drop at text) (s .fits) u (sym q ∙ s .is) in
-          lines-none rs w (sym (ap transitionLine (drop-cons text at 0 h)) ∙ sym e) (sym (drop-cons text at 0 h) ∙ j))
+      lines-none rs w (sym (ap transitionLine (drop-cons text at 0 h)) ∙ sym e) (sym (drop-cons text at 0 h) ∙ j))
 
   module _ {a b next : ℕ} (h : at < length text) (e : some (a, b, drop next text) ≡ transitionLine (drop at text)) (n : next ≤ length text) where
     line : Line (drop at text) a b (drop next text)

@@ -68,12 +68,12 @@ spelled-read (suc k) x cs h l =
     elim (decLt x 10) [
       | yes s ↦ digit-read (suc k) x cs s
       | no g ↦
-        let e = pow-suc 10 (suc k) in
-        let d : ℕ = digit (x % 10) in
-        let same : x / 10 * 10 + (d - 48) ≡ x = omega arith in
-        ap number (ap (λ (s : List ℕ). s ++ cs) (spelled-last (suc k) x (omega arith)) ∙ append-assoc (spelled (suc k) (x / 10)) (d ∷ []) cs)
-        ∙ spelled-read k (x / 10) (d ∷ cs) (omega (arith, e)) (omega arith)
-        ∙ more-digit (x / 10) d cs (digit-code d (omega arith) (omega arith)) (extended-some (x / 10) d (omega arith) (omega arith) ∙ ap some same)
+          let e = pow-suc 10 (suc k) in
+          let d : ℕ = digit (x % 10) in
+          let same : x / 10 * 10 + (d - 48) ≡ x = omega arith in
+          ap number (ap (λ (s : List ℕ). s ++ cs) (spelled-last (suc k) x (omega arith)) ∙ append-assoc (spelled (suc k) (x / 10)) (d ∷ []) cs)
+          ∙ spelled-read k (x / 10) (d ∷ cs) (omega (arith, e)) (omega arith)
+          ∙ more-digit (x / 10) d cs (digit-code d (omega arith) (omega arith)) (extended-some (x / 10) d (omega arith) (omega arith) ∙ ap some same)
     ]
 
 pub decimal-read : (x : ℕ) (cs : List ℕ) → x < 65536 → number (decimal x ++ cs) ≡ more x cs

@@ -48,7 +48,9 @@ line-spelled cs {a} {b} {rest} h =
     let t = field-spelled newline (p .1) q′ in
     record {
       is = s .is ∙ ap (λ (r : List ℕ). decimal (p .0) ++ (space ∷ r)) (t .is) ∙ ap (λ (l : ℕ × ℕ × List ℕ). decimal (l .0) ++ (space ∷ decimal (l .1) ++ (newline ∷ l .2))) l;
-      start = omega (arith, s .below); end = omega (arith, t .below) }
+      start = omega (arith, s .below);
+      end = omega (arith, t .below);
+    }
 
 -- The first of several lines is read.
 lines-read : (p : ℕ × ℕ) (ps : List (ℕ × ℕ)) (cs : List ℕ) → Numbers (p ∷ ps) → transitionLine (transitionLines (p ∷ ps) ++ cs) ≡ some (p .0, p .1, transitionLines ps ++ cs)

@@ -9,10 +9,6 @@ use Rattle.quiet_text.proofs.Numbers.{code-range}
 use Rattle.quiet_text.proofs.Digits.{Digits, digits-past, digits-none, digits-start, digits-other, digits-full, digits-on, digits-end}
 use Rattle.quiet_text.proofs.number.number_at.Statement.{statement}
 use Rattle.quiet_text.proofs.number.number_at.Tie as tie
-use Rattle.quiet_text.proofs.number.number_at.Reads as reads
-use Rattle.quiet_text.proofs.number.number_at.Lts as lts
-use Rattle.quiet_text.proofs.number.is_digit.Reads as is-digit-reads
-use Rattle.quiet_text.proofs.number.with_digit.Reads as with-digit-reads
 
 abbrev Inv-loop : tie.InvT-loop
 Inv-loop text from first x₀ i₀ x i = Digits text from x i
@@ -20,78 +16,61 @@ Inv-loop text from first x₀ i₀ x i = Digits text from x i
 abbrev μ-loop : tie.MeasureT-loop
 μ-loop text from first x₀ i₀ x i = length text - i
 
--- src/number.rt:49:9
 returns : tie.Need-returns Inv-loop μ-loop
 returns c = let a = c .before .before .args in (digits-past (a .text .now) (a .from) (omega arith), omega arith)
 
--- src/number.rt:51:17
 shared-slice-read-first : tie.Need-shared-slice-read-first Inv-loop μ-loop
 shared-slice-read-first c = search needs
 
--- src/number.rt:52:9
 is-digit-requires : tie.Need-is-digit-requires Inv-loop μ-loop
 is-digit-requires c κs = search needs
 
--- src/number.rt:53:9
 returns-2 : tie.Need-returns-2 Inv-loop μ-loop
 returns-2 c = let a = c .before .before .before .before .before .args in (digits-none (a .text .now) (a .from) (omega arith) (sym (c .before .is-digit .ensures) ∙ not-true _ (c .if2 .taken)), omega arith)
 
 value-of-requires : tie.Need-value-of-requires Inv-loop μ-loop
 value-of-requires c κs = sym (c .before .is-digit .ensures) ∙ not-false _ (c .if2 .left)
 
--- src/number.rt:56:17
 add-i : tie.Need-add-i Inv-loop μ-loop
 add-i c = search needs
 
--- src/number.rt:57:5
 loop-holds : tie.Need-loop-holds Inv-loop μ-loop
 loop-holds c = digits-start _ _ (omega arith) (sym (c .before .before .is-digit .ensures) ∙ not-false _ (c .before .if2 .left)) (c .value-of .ensures)
 
--- src/number.rt:58:17
 shared-slice-read-c : tie.Need-shared-slice-read-c Inv-loop μ-loop
 shared-slice-read-c c = search needs
 
--- src/number.rt:59:13
 is-digit-requires-2 : tie.Need-is-digit-requires-2 Inv-loop μ-loop
 is-digit-requires-2 c κs = search needs
 
--- src/number.rt:60:13
 returns-3 : tie.Need-returns-3 Inv-loop μ-loop
 returns-3 c = let l = c .before .before .before .before .loop in (digits-other (l .inv) (omega arith) (sym (c .before .is-digit2 .ensures) ∙ not-true _ (c .if3 .taken)), l .inv .low)
 
--- src/number.rt:62:29
 with-digit-requires : tie.Need-with-digit-requires Inv-loop μ-loop
 with-digit-requires c κs = sym (c .before .is-digit2 .ensures) ∙ not-false _ (c .if3 .left)
 
--- src/number.rt:62:24
 enum-known-y : tie.Need-enum-known-y Inv-loop μ-loop
 enum-known-y c = search needs
 
--- src/number.rt:63:13
 enum-told : tie.Need-enum-told Inv-loop μ-loop
 enum-told c = search needs
 
--- src/number.rt:63:13
 returns-4 : tie.Need-returns-4 Inv-loop μ-loop
 returns-4 c =
     let d = sym (c .before .before .before .before .is-digit2 .ensures) ∙ not-false _ (c .before .before .before .if3 .left) in
     (digits-full (c .before .before .before .before .before .before .before .loop .inv) (omega arith) d (sym (c .before .before .with-digit .ensures) ∙ ap longerOf (c .enum-told .given .1)), omega arith)
 
--- src/number.rt:66:9
 add-i-2 : tie.Need-add-i-2 Inv-loop μ-loop
 add-i-2 c = search needs
 
--- src/number.rt:57:5
 loop-less : tie.Need-loop-less Inv-loop μ-loop
 loop-less c = search needs
 
--- src/number.rt:57:5
 loop-again : tie.Need-loop-again Inv-loop μ-loop
 loop-again c =
     let d = sym (c .before .before .before .before .before .is-digit2 .ensures) ∙ not-false _ (c .before .before .before .before .if3 .left) in
     digits-on (c .before .before .before .before .before .before .before .before .loop .inv) (omega arith) d (sym (c .before .before .before .with-digit .ensures) ∙ ap longerOf (c .before .y .given .1))
 
--- src/number.rt:45:1
 returns-5 : tie.Need-returns-5 Inv-loop μ-loop
 returns-5 c = let l = c .before .loop in (digits-end (l .inv) (omega arith), l .inv .low)
 

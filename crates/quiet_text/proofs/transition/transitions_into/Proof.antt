@@ -8,9 +8,6 @@ use Rattle.quiet_text.specs.declared.transition.Line.{Line}
 use Rattle.quiet_text.proofs.Listing.{Listing, listing-start, listing-end, listing-none, listing-far, listing-on}
 use Rattle.quiet_text.proofs.transition.transitions_into.Statement.{statement}
 use Rattle.quiet_text.proofs.transition.transitions_into.Tie as tie
-use Rattle.quiet_text.proofs.transition.transitions_into.Reads as reads
-use Rattle.quiet_text.proofs.transition.transitions_into.Lts as lts
-use Rattle.quiet_text.proofs.transition.transition_at.Reads as transition-at-reads
 
 abbrev Inv-loop : tie.InvT-loop
 Inv-loop text from transitions₀ k₀ at₀ transitions k at = Listing text from transitions₀ transitions k at
