@@ -1,14 +1,12 @@
 -- Decimal digits, one after another.
 use mathlib.Core.Path.{_≡_, refl, sym, ap, _∙_}
-use mathlib.Core.Bool.{Bool, true, false, cond}
-use mathlib.Core.List.{List, [], _∷_, _++_, append-assoc}
-use Prim.Native.Nat.{ℕ, zero, suc, _+_, _*_, _/_, _%_, _^_, _≤_, _<_}
+use mathlib.Core.List.{List, [], _∷_, _++_}
+use Prim.Native.Nat.{ℕ, zero, suc, _+_, _*_, _-_, _/_, _%_, _^_, _≤_, _<_}
 use native.Mathlib.Nat.{pow-suc}
 use native.Mathlib.Decide.{decLt}
 use native.Mathlib.Omega.{arith}
-use lib.Dec.{ltb}
 use lib.ListN.{length, length-append}
-use borrow.Author.Tests.{lt-ltb, le-ltb, ltb-true, ltb-false}
+use borrow.Author.Tests.{lt-ltb, le-ltb}
 use Rattle.quiet_text.specs.Decimal.{digit, spelled, decimal}
 
 -- A number below 10 is its digit.
@@ -41,3 +39,34 @@ decimal-digit x d p h l =
 -- At least one digit.
 pub decimal-long : (x : ℕ) → 0 < length (decimal x)
 decimal-long x = elim (decLt x 10) [ yes l ↦ rw (spelled-digit 4 x l) (omega arith) | no g ↦ rw (spelled-last 4 x (omega arith), length-append (spelled 4 (x / 10)) (digit (x % 10) ∷ [])) (omega arith) ]
+
+-- A number below 10 is one digit.
+pub spelled-one : (k x : ℕ) → 0 < k → x < 10 → spelled k x ≡ digit (x % 10) ∷ []
+spelled-one zero x p h = absurd (omega arith)
+spelled-one (suc k) x p h = let e : x % 10 ≡ x = omega arith in spelled-digit k x h ∙ ap (λ (d : ℕ). digit d ∷ []) (sym e)
+
+-- A larger number is the digits of its tens, then its last digit.
+pub spelled-more : (k x : ℕ) → 0 < k → 10 ≤ x → spelled k x ≡ spelled (k - 1) (x / 10) ++ (digit (x % 10) ∷ [])
+spelled-more zero x p h = absurd (omega arith)
+spelled-more (suc k) x p h = let e : suc k - 1 ≡ k = omega arith in rw e (spelled-last k x h)
+
+-- The tens have a digit less.
+pub tens-below : (k x : ℕ) → 0 < k → x < 10 ^ k → x / 10 < 10 ^ (k - 1)
+tens-below zero x p h = absurd (omega arith)
+tens-below (suc k) x p h = let e : suc k - 1 ≡ k = omega arith in rw e (omega (arith, pow-suc 10 k))
+
+-- A number from 10 on has two digits or more.
+pub two-digits : (k x : ℕ) → 10 ≤ x → x < 10 ^ k → 1 < k
+two-digits zero x h b = absurd (omega arith)
+two-digits (suc zero) x h b = absurd (omega arith)
+two-digits (suc (suc k)) x h b = omega arith
+
+-- At most k digits.
+pub spelled-length : (k x : ℕ) → length (spelled k x) ≤ k
+spelled-length zero x = omega arith
+spelled-length (suc k) x =
+    elim (decLt x 10) [
+      | yes h ↦ rw (spelled-digit k x h) (omega arith)
+      | no h ↦
+          rw (spelled-last k x (omega arith)) (omega (arith, length-append (spelled k (x / 10)) (digit (x % 10) ∷ []), spelled-length k (x / 10)))
+    ]

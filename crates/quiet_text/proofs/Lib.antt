@@ -8,3 +8,6 @@ pub mod Ends
 pub mod Cells
 pub mod Listing
 pub mod Readings
+pub mod Writing
+pub mod Printing
+pub mod Replies

@@ -2,6 +2,8 @@
 pub mod count;
 pub mod field;
 pub mod number;
+pub mod put;
 pub mod read;
+pub mod reply;
 pub mod table;
 pub mod transition;
