@@ -18,7 +18,7 @@ use Rattle.hazard.proofs.Minimal.{exists-iff}
 
 module _ (n : ℕ) (f ts : List ℕ) where
   -- The first blocking cube has number 10.
-  block-number : (q : Refusal) → blocking n f ts ≡ some q → q .number ≡ 10
+  pub block-number : (q : Refusal) → blocking n f ts ≡ some q → q .number ≡ 10
   block-number q e = let (r, m, h) = firstOf-some (blockCheck n (off f) (privileged n f ts)) (required n f ts) e in go r (grow n (off f) (privileged n f ts) (r .cube)) h
     where
       go : (r : Required) (g : Growth) → blockedBy r g ≡ some q → q .number ≡ 10

@@ -11,3 +11,5 @@ pub mod Readings
 pub mod Writing
 pub mod Printing
 pub mod Replies
+pub mod Solving
+pub mod Answering

@@ -3,3 +3,4 @@ pub mod Form
 pub mod Output
 pub mod Wrote
 pub mod Read
+pub mod Answer

@@ -1,4 +1,5 @@
 // Text in, text out: the form of a problem, and the form of the minimiser's answer.
+pub mod answer;
 pub mod count;
 pub mod field;
 pub mod number;

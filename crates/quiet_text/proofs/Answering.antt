@@ -1,0 +1,74 @@
+-- The program's promise, from what was read and what was printed.
+use mathlib.Core.Path.{_≡_, refl, sym, ap, subst, subst₂, _∙_}
+use mathlib.Core.List.{List}
+use mathlib.Core.Option.{Option, none, some}
+use Prim.Native.Nat.{ℕ, _-_, _≤_, _<_}
+use native.Mathlib.Nat.{sub-zero}
+use native.Mathlib.Omega.{arith}
+use lib.ListN.{length, take}
+use Rattle.hazard.specs.Search.{firstOf}
+use Rattle.hazard.specs.Refusal.{Refusal, refusal}
+use Rattle.hazard.proofs.Search.{none-some}
+use Rattle.quiet_text.specs.Form.{Form, Formed, flat}
+use Rattle.quiet_text.specs.Output.{refusalText}
+use Rattle.quiet_text.specs.Read.{Reading, problem, malformed}
+use Rattle.quiet_text.specs.Answer.{checks, Printed, Solved, Promise}
+use Rattle.quiet_text.specs.declared.read.Read.the-variants as read
+use Rattle.quiet_text.proofs.Forms.{form-unique}
+use Rattle.quiet_text.proofs.Solving.{printed-within}
+
+-- What is counted for a problem lies in the buffer.
+solved-within : {n : ℕ} {f ts before after : List ℕ} {r : Option ℕ} → Solved n f ts before after r → (k : ℕ) → r ≡ some k → k ≤ length after
+solved-within {n} {f} {ts} {before} {after} {r} s = go (firstOf (checks n f ts)) refl
+  where
+    go : (o : Option Refusal) → firstOf (checks n f ts) ≡ o → (k : ℕ) → r ≡ some k → k ≤ length after
+    go (some q) e = printed-within (s .refused q e .0)
+    go none e = printed-within (s .network e .2)
+
+-- The problem that was read is the only one that the text says.
+only-solved : {text : List ℕ} {n : ℕ} {f : List ℕ} {ps : List (ℕ × ℕ)} {before after : List ℕ} {r : Option ℕ} → Form text n f ps → Solved n f (flat ps) before after r
+    → (m : ℕ) (g : List ℕ) (qs : List (ℕ × ℕ)) → Form text m g qs → Solved m g (flat qs) before after r
+only-solved {n = n} {f = f} {ps = ps} {before = before} {after = after} {r = r} s a m g qs t =
+    let (i, j, k) = form-unique s t in
+    let a₁ : Solved m f (flat ps) before after r = subst (λ (m : ℕ). Solved m f (flat ps) before after r) i a in
+    let a₂ : Solved m g (flat ps) before after r = subst (λ (g : List ℕ). Solved m g (flat ps) before after r) j a₁ in
+    subst (λ (qs : List (ℕ × ℕ)). Solved m g (flat qs) before after r) k a₂
+
+module _ {text before after : List ℕ} {r : Option ℕ} where
+  pub promise-short : length before < 22543 → after ≡ before → r ≡ none → Promise text before after r
+  promise-short h e n =
+      record {
+        noRoom = λ l. (n, e);
+        within = λ k s. none-some (sym n ∙ s);
+        malformed = λ l. absurd (omega (arith, l));
+        solved = λ l. absurd (omega (arith, l));
+      }
+
+  module _ {f ts : List ℕ} (h : 22543 ≤ length before) where
+    pub promise-malformed : Reading text f ts read.Malformed → Printed before (refusalText (refusal 13 0 0)) after r → Promise text before after r
+    promise-malformed (malformed n) w =
+        record {
+          noRoom = λ l. absurd (omega (arith, l));
+          within = printed-within w;
+          malformed = λ l m. w;
+          solved = λ l n′ f′ ps s. absurd (n (n′, f′, ps, s));
+        }
+
+    -- The table and the list are lent as parts of the room, from 0 on.
+    pub promise-solved : {n k t : ℕ} → Reading text f ts (read.Problem n k t) → Solved n (take (k - 0) f) (take (t - 0) ts) before after r → Promise text before after r
+    promise-solved {n} {k} {t} (problem ps s e l m) a =
+        let c : Solved n (take k f) (take t ts) before after r = subst₂ (λ (i j : ℕ). Solved n (take i f) (take j ts) before after r) (sub-zero k) (sub-zero t) a in
+        let b : Solved n (take k f) (flat ps) before after r = subst (λ (q : List ℕ). Solved n (take k f) q before after r) e c in
+        record {
+          noRoom = λ l. absurd (omega (arith, l));
+          within = solved-within b;
+          malformed = λ l n′. absurd (n′ (n, take k f, ps, s));
+          solved = λ l. only-solved s b;
+        }
+
+-- The parts of the room that the problem takes.
+pub table-within : {text f ts : List ℕ} {n k t : ℕ} → Reading text f ts (read.Problem n k t) → k ≤ length f
+table-within (problem ps s e l m) = l
+
+pub list-within : {text f ts : List ℕ} {n k t : ℕ} → Reading text f ts (read.Problem n k t) → t ≤ length ts
+list-within (problem ps s e l m) = m

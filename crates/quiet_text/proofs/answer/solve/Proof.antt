@@ -1,0 +1,76 @@
+use mathlib.Core.Path.{subst}
+use native.Mathlib.Omega.{arith}
+use denote.Ref.{now}
+use borrow.Author.Needs.{needs}
+use Rattle.hazard.specs.Minimal as minimal
+use Rattle.problem.specs.Answer.{refusalOf}
+use Rattle.minimiser.specs.Answer.{minimisedOf}
+use Rattle.minimiser.specs.declared.network.Minimised.{Minimised}
+use Rattle.quiet_text.proofs.Solving.{network-room, solved-refused, solved-written, printed-from, refusal-length}
+use Rattle.quiet_text.proofs.answer.solve.Statement.{statement}
+use Rattle.quiet_text.proofs.answer.solve.Tie as tie
+
+minimise-requires : tie.Need-minimise-requires
+minimise-requires c κs = search needs
+
+enum-known-r : tie.Need-enum-known-r
+enum-known-r c = search needs
+
+put-refusal-requires : tie.Need-put-refusal-requires
+put-refusal-requires c κs = search needs
+
+enum-known-count : tie.Need-enum-known-count
+enum-known-count c = search needs
+
+put-network-requires : tie.Need-put-network-requires
+put-network-requires c κs =
+    let a = c .before .before .before .before .before .before .before .before .before .before .before .before .before .args in
+    let g = c .before .before .before .count .given in
+    let after = c .before .before .before .before .before .before .before .minimise .last .1 .1 .1 .0 in
+    let p = subst (λ (m : Minimised). minimal.Promise (a .n) (now (a .table)) (now (a .transitions)) (now (a .cover)) after (minimisedOf m)) (g .1) (c .before .before .before .before .before .before .before .minimise .ensures) in
+    let r = network-room (c .before .before .before .before .before .before .before .before .before .before .before .before .before .pre .0) p (c .before .before .before .before .before .before .before .minimise .kept .1 .1 .1 .0) in
+    (r .0, r .1, r .2, c .before .before .before .before .before .before .before .before .before .before .before .before .before .pre .1)
+
+same-length : tie.Need-same-length
+same-length c = search needs
+
+same-length-2 : tie.Need-same-length-2
+same-length-2 c = search needs
+
+returns : tie.Need-returns
+returns c =
+    let a = c .before .before .before .before .before .before .before .before .before .before .before .before .before .before .before .args in
+    let g = c .before .before .before .before .before .r .given in
+    let after = c .before .before .before .before .before .before .before .before .before .minimise .last .1 .1 .1 .0 in
+    let p = subst (λ (m : Minimised). minimal.Promise (a .n) (now (a .table)) (now (a .transitions)) (now (a .cover)) after (minimisedOf m)) (g .1) (c .before .before .before .before .before .before .before .before .before .minimise .ensures) in
+    solved-refused (c .before .before .before .before .before .before .before .before .before .before .before .before .before .before .before .pre .0) p (printed-from (c .before .before .put-refusal .ensures) (omega (arith, refusal-length (refusalOf (g .0 .0)), c .before .before .before .before .before .before .before .before .before .before .before .before .before .before .before .pre .1)))
+
+same-length-3 : tie.Need-same-length-3
+same-length-3 c = search needs
+
+same-length-4 : tie.Need-same-length-4
+same-length-4 c = search needs
+
+returns-2 : tie.Need-returns-2
+returns-2 c =
+    let a = c .before .before .before .before .before .before .before .before .before .before .before .before .before .before .before .before .args in
+    let g = c .before .before .before .before .before .before .count .given in
+    let after = c .before .before .before .before .before .before .before .before .before .before .minimise .last .1 .1 .1 .0 in
+    let p = subst (λ (m : Minimised). minimal.Promise (a .n) (now (a .table)) (now (a .transitions)) (now (a .cover)) after (minimisedOf m)) (g .1) (c .before .before .before .before .before .before .before .before .before .before .minimise .ensures) in
+    solved-written (c .before .before .before .before .before .before .before .before .before .before .before .before .before .before .before .before .pre .0) p (c .before .before .before .before .before .before .before .before .before .before .before .before .before .before .before .before .pre .1) (c .before .before .put-network .ensures)
+
+pub solve-spec : {M : Type 1} → statement M
+solve-spec =
+    tie.close
+    (tie.spec
+    minimise-requires
+    enum-known-r
+    put-refusal-requires
+    enum-known-count
+    put-network-requires
+    same-length
+    same-length-2
+    returns
+    same-length-3
+    same-length-4
+    returns-2)

@@ -1,0 +1,68 @@
+// The program's call: the output for a text.
+ghost use mathlib.Core.Option.{some};
+ghost use Prim.Native.Nat.{_≤_, _<_};
+ghost use lib.ListN.{length};
+ghost use Rattle.quiet_text.specs.Answer.{writtenOf, Solved, Promise};
+use crate::read::Read;
+use crate::read::read_problem;
+use crate::reply::put_network;
+use crate::reply::put_refusal;
+use minimiser::minimise::minimise;
+use minimiser::network::Minimised;
+use problem::refusal::refuse;
+
+// How many bytes of the buffer are the output; or the buffer is too short for every output, and is left as it was.
+pub enum Output {
+    Written(usize),
+    NoRoom,
+}
+
+// The output for a problem.
+fn solve(n: usize, table: &[u8], transitions: &[u16], cover: &mut [u8], out: &mut [u8]) -> usize
+    requires { ⌜ (20480 ≤ length (now cover)) × (22543 ≤ length (now out)) ⌝ }
+    ensures { λ r. ⌜ Solved n (now (table .entry)) (now (transitions .entry)) (now (out .entry)) (now (out .exit)) (some r) ⌝ }
+{
+    match minimise(n, table, transitions, cover) {
+        Minimised::Refused(r) => put_refusal(r, out),
+        Minimised::Products(count) => put_network(n, count, cover, out),
+    }
+}
+
+// The output for a text, in lent room.
+fn reply_with(
+    text: &[u8],
+    table: &mut [u8],
+    transitions: &mut [u16],
+    cover: &mut [u8],
+    out: &mut [u8],
+) -> usize
+    requires { ⌜ (4096 ≤ length (now table)) × (2048 ≤ length (now transitions)) × (20480 ≤ length (now cover)) × (22543 ≤ length (now out)) ⌝ }
+    ensures { λ r. ⌜ Promise (now (text .entry)) (now (out .entry)) (now (out .exit)) (some r) ⌝ }
+{
+    let Read::Problem(n, k, t) = read_problem(text, table, transitions) else {
+        return put_refusal(refuse(13, 0, 0), out);
+    };
+    solve(n, &table[0..k], &transitions[0..t], cover, out)
+}
+
+// The same, in room of its own.
+fn reply(text: &[u8], out: &mut [u8]) -> usize
+    requires { ⌜ 22543 ≤ length (now out) ⌝ }
+    ensures { λ r. ⌜ Promise (now (text .entry)) (now (out .entry)) (now (out .exit)) (some r) ⌝ }
+{
+    let mut table = [0u8; 4096];
+    let mut transitions = [0u16; 2048];
+    let mut cover = [0u8; 20480];
+    reply_with(text, &mut table, &mut transitions, &mut cover, out)
+}
+
+// The output for a text: the products of a network, or a refusal. It needs 22,543 bytes of room at most: a head of 9, a count of 5,
+// an end of line, and 2,048 lines of 11.
+pub fn answer(text: &[u8], out: &mut [u8]) -> Output
+    ensures { λ r. ⌜ Promise (now (text .entry)) (now (out .entry)) (now (out .exit)) (writtenOf r) ⌝ }
+{
+    if out.len() < 22543 {
+        return Output::NoRoom;
+    }
+    Output::Written(reply(text, out))
+}
