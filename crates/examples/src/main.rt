@@ -1,6 +1,4 @@
 // Every example: the text that one argument names is answered, and the output is compared with the file that the next one names.
-ghost use Prim.Native.Nat.{_≤_};
-ghost use lib.ListN.{length};
 ghost use Rattle.io.specs.Counts.{Counts};
 use quiet_text::answer::Output;
 use quiet_text::answer::answer;
@@ -33,36 +31,42 @@ fn is_same(a: &[u8], b: &[u8]) -> bool {
     true
 }
 
+fn judge(output: &[u8], expected: &[u8]) {
+    if is_same(output, expected) {
+        io::write_all(1, b"as expected\n");
+    } else {
+        io::write_all(1, b"not as expected: ");
+        io::write_all(1, output);
+    }
+}
+
 fn compare(text: &[u8], expected: &[u8], out: &mut [u8]) {
     match answer(text, out) {
-        Output::Written(k) => {
-            if is_same(&out[0..k], expected) {
-                io::write_all(1, b"as expected\n");
-            } else {
-                io::write_all(1, b"not as expected: ");
-                io::write_all(1, &out[0..k]);
-            }
-        }
+        Output::Written(k) => judge(&out[0..k], expected),
         Output::NoRoom => {
             io::write_all(1, b"no room\n");
         }
     }
 }
 
-fn example(i: usize) {
+// The example whose text and output two arguments name.
+fn example(i: usize, j: usize) {
     let mut text = io::large_buffer();
     let k = file_into(i, &mut text);
     let mut expected = io::large_buffer();
-    let e = file_into(i + 1, &mut expected);
+    let e = file_into(j, &mut expected);
     let mut out = [0u8; 22543];
     compare(&text[..k], &expected[..e], &mut out);
 }
 
+// Room for 200 examples; an argument that is not there is no example.
 fn main() {
     let count = os::arg_count();
     let mut i = 1;
-    while i < count && i < 1000 {
-        example(i);
+    while i < 400 {
+        if i < count {
+            example(i, i + 1);
+        }
         i += 2;
     }
 }
