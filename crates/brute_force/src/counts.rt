@@ -1,0 +1,77 @@
+// What was covered, and each kind of disagreement: one count each.
+pub const MINIMISED: usize = 0;
+
+pub const LARGE: usize = 1;
+
+pub const NONE: usize = 2;
+
+pub const REFUSED_6: usize = 3;
+
+pub const REFUSED_7: usize = 4;
+
+pub const STEPS_1: usize = 5;
+
+pub const STEPS_2: usize = 6;
+
+pub const STEPS_3: usize = 7;
+
+pub const SETS: usize = 8;
+
+pub const DROPPED: usize = 9;
+
+pub const REFUSED: usize = 10;
+
+pub const PASSED: usize = 11;
+
+pub const HOLDS_ZERO: usize = 12;
+
+pub const INTERSECTS: usize = 13;
+
+pub const UNCOVERED: usize = 14;
+
+pub const TOO_WIDE: usize = 15;
+
+// Disagreements: all, and each kind.
+pub const DISAGREEMENTS: usize = 16;
+
+pub const ACCEPTANCE: usize = 17;
+
+pub const FIELDS_OF_NONE: usize = 18;
+
+pub const HAZARD_FREE_SET: usize = 19;
+
+pub const BUFFER: usize = 20;
+
+pub const HAZARD: usize = 21;
+
+pub const DROPPABLE: usize = 22;
+
+pub const INSIDE: usize = 23;
+
+pub const PAST_THE_END: usize = 24;
+
+pub const NOT_PASSED: usize = 25;
+
+pub const VERDICT: usize = 26;
+
+pub const FIELDS_OF_FAULT: usize = 27;
+
+pub const LEN: usize = 28;
+
+// One more. A count stops far above any that comes up.
+pub fn add(counts: &mut [u64; LEN], which: usize) {
+    if which < LEN {
+        let c = counts[which];
+        if c < 1000000000000 {
+            counts[which] = c + 1;
+        }
+    }
+}
+
+// A disagreement of this kind, unless the two sides agree.
+pub fn expect(counts: &mut [u64; LEN], which: usize, agree: bool) {
+    if !agree {
+        add(counts, DISAGREEMENTS);
+        add(counts, which);
+    }
+}

@@ -1,0 +1,170 @@
+// The minimiser against the counterpart.
+use crate::bytes::length_of;
+use crate::bytes::marked;
+use crate::bytes::network_from;
+use crate::counts::ACCEPTANCE;
+use crate::counts::BUFFER;
+use crate::counts::DROPPABLE;
+use crate::counts::DROPPED;
+use crate::counts::FIELDS_OF_NONE;
+use crate::counts::HAZARD;
+use crate::counts::HAZARD_FREE_SET;
+use crate::counts::INSIDE;
+use crate::counts::LARGE;
+use crate::counts::LEN;
+use crate::counts::MINIMISED;
+use crate::counts::NONE;
+use crate::counts::NOT_PASSED;
+use crate::counts::PAST_THE_END;
+use crate::counts::REFUSED_6;
+use crate::counts::REFUSED_7;
+use crate::counts::STEPS_1;
+use crate::counts::STEPS_2;
+use crate::counts::STEPS_3;
+use crate::counts::TOO_WIDE;
+use crate::counts::add;
+use crate::counts::expect;
+use crate::faults::inside_legal;
+use crate::instance::Instance;
+use crate::instance::first_refused;
+use crate::network::Network;
+use crate::network::product_at;
+use crate::network::without;
+use crate::required::names_blocked;
+use crate::sets::some_hazard_free;
+use crate::verifying::passes;
+use crate::verifying::same_refusal;
+use crate::wires::Found;
+use crate::wires::hazard_free;
+use minimiser::minimise::minimise;
+use minimiser::network::Minimised;
+use problem::refusal::Refusal;
+
+// What the buffer holds before the call.
+const MARK: u8 = 9;
+
+// Which way an instance went.
+pub enum Answer {
+    Refused,
+    None,
+    Made(Network),
+}
+
+// Whether it is hazard-free is as expected, unless it was too wide to be tried.
+fn expect_hazard_free(
+    p: Instance,
+    net: Network,
+    wanted: bool,
+    which: usize,
+    counts: &mut [u64; LEN],
+) {
+    match hazard_free(p, net) {
+        Found::HazardFree => expect(counts, which, wanted),
+        Found::Hazard => expect(counts, which, !wanted),
+        Found::TooWide => add(counts, TOO_WIDE),
+    }
+}
+
+// Without any one product the network is not hazard-free, and none lies inside a larger legal one.
+fn drops(p: Instance, net: Network, counts: &mut [u64; LEN]) {
+    for j in 0..net.count {
+        expect(counts, INSIDE, !inside_legal(p, product_at(net, j)));
+        add(counts, DROPPED);
+        expect_hazard_free(p, without(net, j), false, DROPPABLE, counts);
+    }
+}
+
+// A hazard-free network, in which each product is needed and as large as can be.
+fn minimal(p: Instance, net: Network, count: usize, counts: &mut [u64; LEN]) {
+    add(counts, MINIMISED);
+    if 3 <= count {
+        add(counts, LARGE);
+    }
+    expect(counts, ACCEPTANCE, first_refused(p).number == 0);
+    expect(counts, HAZARD, net.count == count as u64);
+    expect_hazard_free(p, net, true, HAZARD, counts);
+    drops(p, net, counts);
+}
+
+// What the minimiser wrote: a minimal network that the verifier passes, and no byte more.
+fn made(
+    p: Instance,
+    table: &[u8],
+    transitions: &[u16],
+    cover: &[u8],
+    count: usize,
+    counts: &mut [u64; LEN],
+) -> Answer {
+    let n = p.n as usize;
+    let net = network_from(n, cover, count);
+    minimal(p, net, count, counts);
+    let end = length_of(n, count);
+    expect(counts, PAST_THE_END, marked(cover, end, MARK));
+    if end <= cover.len() {
+        let passed = passes(n, table, transitions, &cover[0..end]);
+        expect(counts, NOT_PASSED, passed);
+    }
+    Answer::Made(net)
+}
+
+fn count_of_steps(steps: u16) -> usize {
+    if steps == 1 {
+        return STEPS_1;
+    }
+    if steps == 2 {
+        return STEPS_2;
+    }
+    if steps == 3 {
+        return STEPS_3;
+    }
+    LEN
+}
+
+// Refusal 10: no set of products is hazard-free, and the fields name the first cube that blocks.
+fn none(p: Instance, r: Refusal, counts: &mut [u64; LEN]) -> Answer {
+    add(counts, NONE);
+    add(counts, count_of_steps(r.steps));
+    expect(counts, ACCEPTANCE, first_refused(p).number == 0);
+    expect(counts, FIELDS_OF_NONE, names_blocked(p, r));
+    let found = some_hazard_free(p, counts);
+    expect(counts, HAZARD_FREE_SET, !found);
+    Answer::None
+}
+
+fn count_of_refusal(number: u16) -> usize {
+    if number == 6 {
+        return REFUSED_6;
+    }
+    if number == 7 {
+        return REFUSED_7;
+    }
+    LEN
+}
+
+// A refusal by check 6 or 7, as the counterpart has it.
+fn declined(p: Instance, r: Refusal, counts: &mut [u64; LEN]) -> Answer {
+    add(counts, count_of_refusal(r.number));
+    expect(counts, ACCEPTANCE, same_refusal(first_refused(p), r));
+    Answer::Refused
+}
+
+// An instance through the minimiser; the table and the transitions are its bytes.
+pub fn minimises(
+    p: Instance,
+    table: &[u8],
+    transitions: &[u16],
+    counts: &mut [u64; LEN],
+) -> Answer {
+    let mut cover = [MARK; 256];
+    match minimise(p.n as usize, table, transitions, &mut cover) {
+        Minimised::Products(count) => made(p, table, transitions, &cover, count, counts),
+        Minimised::Refused(r) => {
+            expect(counts, BUFFER, marked(&cover, 0, MARK));
+            if r.number == 10 {
+                none(p, r, counts)
+            } else {
+                declined(p, r, counts)
+            }
+        }
+    }
+}

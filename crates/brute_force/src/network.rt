@@ -1,0 +1,123 @@
+// Networks of at most 16 products of at most four inputs. A nibble stands for a product, input 0 in its lowest bit.
+pub struct Product {
+    // the inputs with a literal, and those with a plain one
+    pub care: u64,
+    pub value: u64,
+}
+
+pub struct Network {
+    pub care: u64,
+    pub value: u64,
+    // the lowest bit of each product's nibble
+    pub present: u64,
+    pub count: u64,
+}
+
+pub fn empty() -> Network {
+    Network {
+        care: 0,
+        value: 0,
+        present: 0,
+        count: 0,
+    }
+}
+
+pub fn bit(i: u64) -> u64 {
+    if i < 64 {
+        return 1 << i;
+    }
+    0
+}
+
+pub fn has(set: u64, i: u64) -> bool {
+    set & bit(i) != 0
+}
+
+// The nibble x at each product.
+pub fn spread(x: u64) -> u64 {
+    (x % 16) * 1229782938247303441
+}
+
+// The output where each literal sees the point a, but for the wires that have moved and show the other value.
+pub fn output(net: Network, a: u64, moved: u64) -> bool {
+    let failing = (spread(a) ^ moved ^ net.value) & net.care;
+    let some = failing | (failing >> 1) | (failing >> 2) | (failing >> 3);
+    some & net.present != net.present
+}
+
+// The network with a product more; a full one stays.
+pub fn push(net: Network, p: Product) -> Network {
+    let c = net.count;
+    if 16 <= c {
+        return net;
+    }
+    let s = c * 4;
+    Network {
+        care: net.care | (p.care << s),
+        value: net.value | (p.value << s),
+        present: net.present | (1 << s),
+        count: c + 1,
+    }
+}
+
+pub fn product_at(net: Network, j: u64) -> Product {
+    if 16 <= j {
+        return Product { care: 0, value: 0 };
+    }
+    let s = j * 4;
+    Product {
+        care: (net.care >> s) & 15,
+        value: (net.value >> s) & 15,
+    }
+}
+
+// The network without its product j.
+pub fn without(net: Network, j: u64) -> Network {
+    let mut rest = empty();
+    for i in 0..net.count {
+        if i != j {
+            rest = push(rest, product_at(net, i));
+        }
+    }
+    rest
+}
+
+// How many products n inputs have.
+pub fn products_of(n: u64) -> u64 {
+    if n == 2 {
+        return 9;
+    }
+    if n == 3 {
+        return 27;
+    }
+    81
+}
+
+// The product of n inputs with the code's digits in base three as its bytes, input 0 first.
+pub fn product_of(n: u64, code: u64) -> Product {
+    let mut rest = code;
+    let mut care = 0;
+    let mut value = 0;
+    for i in 0..n {
+        let digit = rest % 3;
+        if digit < 2 {
+            care |= bit(i);
+        }
+        if digit == 1 {
+            value |= bit(i);
+        }
+        rest /= 3;
+    }
+    Product { care, value }
+}
+
+// The points of a product among the first 16.
+pub fn points(p: Product) -> u64 {
+    let mut set = 0;
+    for x in 0..16u64 {
+        if (x ^ p.value) & p.care == 0 {
+            set |= bit(x);
+        }
+    }
+    set
+}

@@ -1,0 +1,159 @@
+// None: by trying sets of products that contain no 0.
+use crate::counts::LEN;
+use crate::counts::SETS;
+use crate::counts::add;
+use crate::instance::Instance;
+use crate::network::Network;
+use crate::network::Product;
+use crate::network::empty;
+use crate::network::points;
+use crate::network::product_of;
+use crate::network::products_of;
+use crate::network::push;
+use crate::wires::Found;
+use crate::wires::hazard_free;
+
+// At most 81 products, by their codes.
+pub struct Codes {
+    pub codes: [u64; 81],
+    pub count: usize,
+}
+
+fn append(list: Codes, code: u64) -> Codes {
+    let at = list.count;
+    if 81 <= at {
+        return list;
+    }
+    let mut next = list;
+    next.codes[at] = code;
+    next.count = at + 1;
+    next
+}
+
+pub fn holds_no_zero(p: Instance, q: Product) -> bool {
+    points(q) & p.zeros == 0
+}
+
+// The products that contain no 0.
+pub fn implicants(p: Instance) -> Codes {
+    let mut list = Codes {
+        codes: [0u64; 81],
+        count: 0,
+    };
+    for code in 0..products_of(p.n) {
+        if holds_no_zero(p, product_of(p.n, code)) {
+            list = append(list, code);
+        }
+    }
+    list
+}
+
+fn with_product(p: Instance, net: Network, codes: &[u64; 81], i: usize) -> Network {
+    if i < 81 {
+        return push(net, product_of(p.n, codes[i]));
+    }
+    net
+}
+
+fn is_hazard_free(p: Instance, net: Network, counts: &mut [u64; LEN]) -> bool {
+    add(counts, SETS);
+    if let Found::HazardFree = hazard_free(p, net) {
+        true
+    } else {
+        false
+    }
+}
+
+// Whether the network is hazard-free with one product of the list more, from place `from` on.
+fn with_one(
+    p: Instance,
+    net: Network,
+    codes: &[u64; 81],
+    from: usize,
+    count: usize,
+    counts: &mut [u64; LEN],
+) -> bool {
+    for i in from..count {
+        if is_hazard_free(p, with_product(p, net, codes, i), counts) {
+            return true;
+        }
+    }
+    false
+}
+
+// The same with one or two.
+fn with_two(
+    p: Instance,
+    net: Network,
+    codes: &[u64; 81],
+    from: usize,
+    count: usize,
+    counts: &mut [u64; LEN],
+) -> bool {
+    for i in from..count {
+        let more = with_product(p, net, codes, i);
+        if is_hazard_free(p, more, counts) {
+            return true;
+        }
+        if with_one(p, more, codes, i + 1, count, counts) {
+            return true;
+        }
+    }
+    false
+}
+
+// The same with up to three.
+fn with_three(
+    p: Instance,
+    net: Network,
+    codes: &[u64; 81],
+    from: usize,
+    count: usize,
+    counts: &mut [u64; LEN],
+) -> bool {
+    for i in from..count {
+        let more = with_product(p, net, codes, i);
+        if is_hazard_free(p, more, counts) {
+            return true;
+        }
+        if with_two(p, more, codes, i + 1, count, counts) {
+            return true;
+        }
+    }
+    false
+}
+
+// The same with up to four.
+fn with_four(
+    p: Instance,
+    net: Network,
+    codes: &[u64; 81],
+    from: usize,
+    count: usize,
+    counts: &mut [u64; LEN],
+) -> bool {
+    for i in from..count {
+        let more = with_product(p, net, codes, i);
+        if is_hazard_free(p, more, counts) {
+            return true;
+        }
+        if with_three(p, more, codes, i + 1, count, counts) {
+            return true;
+        }
+    }
+    false
+}
+
+// Whether some set of up to three products is hazard-free, and of up to four where there are three inputs.
+pub fn some_hazard_free(p: Instance, counts: &mut [u64; LEN]) -> bool {
+    if is_hazard_free(p, empty(), counts) {
+        return true;
+    }
+    let list = implicants(p);
+    let codes = list.codes;
+    let count = list.count;
+    if p.n == 3 {
+        return with_four(p, empty(), &codes, 0, count, counts);
+    }
+    with_three(p, empty(), &codes, 0, count, counts)
+}
