@@ -11,7 +11,7 @@ use crate::network::has;
 use crate::network::product_at;
 use crate::network::push;
 
-pub fn table_of(p: Instance) -> [u8; 16] {
+pub(crate) fn table_of(p: Instance) -> [u8; 16] {
     let mut table = [2u8; 16];
     for x in 0..16usize {
         if has(p.zeros, x as u64) {
@@ -28,7 +28,7 @@ fn short(x: u64) -> u16 {
     (x % 65536) as u16
 }
 
-pub fn transitions_of(p: Instance) -> [u16; 16] {
+pub(crate) fn transitions_of(p: Instance) -> [u16; 16] {
     let mut list = [0u16; 16];
     for i in 0..16usize {
         let k = (i / 2) as u64;
@@ -49,7 +49,7 @@ fn digit_of(q: Product, i: u64) -> u8 {
 }
 
 // The network's products, n bytes each; what follows is 2.
-pub fn network_of(n: usize, net: Network) -> [u8; 64] {
+pub(crate) fn network_of(n: usize, net: Network) -> [u8; 64] {
     let mut bytes = [2u8; 64];
     if n == 0 {
         return bytes;
@@ -61,7 +61,7 @@ pub fn network_of(n: usize, net: Network) -> [u8; 64] {
 }
 
 // How many bytes the products of a network take.
-pub fn length_of(n: usize, count: usize) -> usize
+pub(crate) fn length_of(n: usize, count: usize) -> usize
     ensures { λ r. ⌜ r ≤ 64 ⌝ }
 {
     if 16 < count {
@@ -104,7 +104,7 @@ fn product_from(n: usize, bytes: &[u8], from: usize) -> Product {
 }
 
 // The network whose products stand in the bytes, one after another: at most 16.
-pub fn network_from(n: usize, bytes: &[u8], count: usize) -> Network {
+pub(crate) fn network_from(n: usize, bytes: &[u8], count: usize) -> Network {
     let mut net = empty();
     for j in 0..16usize {
         if j < count {
@@ -115,7 +115,7 @@ pub fn network_from(n: usize, bytes: &[u8], count: usize) -> Network {
 }
 
 // Whether each byte from `from` on is the mark.
-pub fn marked(bytes: &[u8], from: usize, mark: u8) -> bool {
+pub(crate) fn marked(bytes: &[u8], from: usize, mark: u8) -> bool {
     let mut i = from;
     while i < bytes.len() {
         if bytes[i] != mark {

@@ -59,7 +59,7 @@ pub const FIELDS_OF_FAULT: usize = 27;
 pub const LEN: usize = 28;
 
 // One more. A count stops far above any that comes up.
-pub fn add(counts: &mut [u64; LEN], which: usize) {
+pub(crate) fn add(counts: &mut [u64; LEN], which: usize) {
     if which < LEN {
         let c = counts[which];
         if c < 1000000000000 {
@@ -69,7 +69,7 @@ pub fn add(counts: &mut [u64; LEN], which: usize) {
 }
 
 // A disagreement of this kind, unless the two sides agree.
-pub fn expect(counts: &mut [u64; LEN], which: usize, agree: bool) {
+pub(crate) fn expect(counts: &mut [u64; LEN], which: usize, agree: bool) {
     if !agree {
         add(counts, DISAGREEMENTS);
         add(counts, which);

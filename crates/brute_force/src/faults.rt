@@ -18,7 +18,7 @@ pub enum Fault {
 }
 
 // The lowest point of a set, or 16.
-pub fn lowest(set: u64) -> u64 {
+pub(crate) fn lowest(set: u64) -> u64 {
     for x in 0..16u64 {
         if has(set, x) {
             return x;
@@ -28,7 +28,7 @@ pub fn lowest(set: u64) -> u64 {
 }
 
 // The first product that contains a 0, and its lowest.
-pub fn zero_held(p: Instance, net: Network) -> Fault {
+pub(crate) fn zero_held(p: Instance, net: Network) -> Fault {
     for j in 0..net.count {
         let x = lowest(points(product_at(net, j)) & p.zeros);
         if x < 16 {
@@ -56,7 +56,7 @@ fn illegal(p: Instance, held: u64, k: u64) -> bool {
 }
 
 // The first transition with which such a product has an illegal intersection, or the count of all.
-pub fn first_illegal(p: Instance, held: u64) -> u64 {
+pub(crate) fn first_illegal(p: Instance, held: u64) -> u64 {
     for k in 0..p.count {
         if illegal(p, held, k) {
             return k;
@@ -74,7 +74,7 @@ fn is_legal(p: Instance, held: u64) -> bool {
 }
 
 // Whether a product lies strictly inside a legal one.
-pub fn inside_legal(p: Instance, q: Product) -> bool {
+pub(crate) fn inside_legal(p: Instance, q: Product) -> bool {
     let held = points(q);
     for code in 0..products_of(p.n) {
         let larger = points(product_of(p.n, code));
@@ -90,7 +90,7 @@ pub fn inside_legal(p: Instance, q: Product) -> bool {
 }
 
 // The first product that intersects a privileged cube illegally, and the first transition whose cube it is.
-pub fn illegal_intersection(p: Instance, net: Network) -> Fault {
+pub(crate) fn illegal_intersection(p: Instance, net: Network) -> Fault {
     for j in 0..net.count {
         let k = first_illegal(p, points(product_at(net, j)));
         if k < p.count {
@@ -101,7 +101,7 @@ pub fn illegal_intersection(p: Instance, net: Network) -> Fault {
 }
 
 // Whether x lies in [A,B] of transition k and has the value 1.
-pub fn one_of(p: Instance, k: u64, x: u64) -> bool {
+pub(crate) fn one_of(p: Instance, k: u64, x: u64) -> bool {
     if p.count <= k {
         return false;
     }

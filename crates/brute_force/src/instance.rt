@@ -18,7 +18,7 @@ pub struct Instance {
 }
 
 // How many points n inputs have.
-pub fn size_of(n: u64) -> u64
+pub(crate) fn size_of(n: u64) -> u64
     ensures { λ r. ⌜ r ≤ 16 ⌝ }
 {
     if n == 2 {
@@ -31,7 +31,7 @@ pub fn size_of(n: u64) -> u64
 }
 
 // All points of n inputs, as a set.
-pub fn all_points(n: u64) -> u64 {
+pub(crate) fn all_points(n: u64) -> u64 {
     if n == 2 {
         return 15;
     }
@@ -42,7 +42,7 @@ pub fn all_points(n: u64) -> u64 {
 }
 
 // A point of n inputs, from any number.
-pub fn point_from(n: u64, x: u64) -> u64 {
+pub(crate) fn point_from(n: u64, x: u64) -> u64 {
     if n == 2 {
         return x % 4;
     }
@@ -52,11 +52,11 @@ pub fn point_from(n: u64, x: u64) -> u64 {
     x % 16
 }
 
-pub fn start(p: Instance, k: u64) -> u64 {
+pub(crate) fn start(p: Instance, k: u64) -> u64 {
     if k < 8 { (p.list >> (k * 8)) & 15 } else { 0 }
 }
 
-pub fn end(p: Instance, k: u64) -> u64 {
+pub(crate) fn end(p: Instance, k: u64) -> u64 {
     if k < 8 {
         (p.list >> (k * 8 + 4)) & 15
     } else {
@@ -65,7 +65,7 @@ pub fn end(p: Instance, k: u64) -> u64 {
 }
 
 // The points of [A,B].
-pub fn between(a: u64, b: u64) -> u64 {
+pub(crate) fn between(a: u64, b: u64) -> u64 {
     points(Product {
         care: 15 ^ a ^ b,
         value: a,
@@ -73,7 +73,7 @@ pub fn between(a: u64, b: u64) -> u64 {
 }
 
 // A problem with no transitions yet.
-pub fn of_table(n: u64, zeros: u64, ones: u64) -> Instance {
+pub(crate) fn of_table(n: u64, zeros: u64, ones: u64) -> Instance {
     Instance {
         n,
         zeros,
@@ -85,7 +85,7 @@ pub fn of_table(n: u64, zeros: u64, ones: u64) -> Instance {
 }
 
 // The problem with a transition more; a full one stays.
-pub fn with_transition(p: Instance, a: u64, b: u64) -> Instance {
+pub(crate) fn with_transition(p: Instance, a: u64, b: u64) -> Instance {
     let k = p.count;
     if 8 <= k {
         return p;
@@ -101,7 +101,7 @@ pub fn with_transition(p: Instance, a: u64, b: u64) -> Instance {
 }
 
 // Whether some point one move further than x, from a towards b, has another value than b.
-pub fn turns(p: Instance, a: u64, b: u64, x: u64) -> bool {
+pub(crate) fn turns(p: Instance, a: u64, b: u64, x: u64) -> bool {
     let last = has(p.ones, b);
     for i in 0..4u64 {
         let further = x ^ bit(i);
@@ -176,7 +176,7 @@ fn refused_by(number: u64, p: Instance) -> Refused {
 }
 
 // Check 6 for all transitions, then check 7.
-pub fn first_refused(p: Instance) -> Refused {
+pub(crate) fn first_refused(p: Instance) -> Refused {
     let six = refused_by(6, p);
     if six.number != 0 {
         return six;

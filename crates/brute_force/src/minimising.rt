@@ -149,7 +149,7 @@ fn declined(p: Instance, r: Refusal, counts: &mut [u64; LEN]) -> Answer {
 }
 
 // An instance through the minimiser; the table and the transitions are its bytes.
-pub fn minimises(
+pub(crate) fn minimises(
     p: Instance,
     table: &[u8],
     transitions: &[u16],

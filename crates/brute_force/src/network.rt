@@ -13,7 +13,7 @@ pub struct Network {
     pub count: u64,
 }
 
-pub fn empty() -> Network {
+pub(crate) fn empty() -> Network {
     Network {
         care: 0,
         value: 0,
@@ -22,31 +22,31 @@ pub fn empty() -> Network {
     }
 }
 
-pub fn bit(i: u64) -> u64 {
+pub(crate) fn bit(i: u64) -> u64 {
     if i < 64 {
         return 1 << i;
     }
     0
 }
 
-pub fn has(set: u64, i: u64) -> bool {
+pub(crate) fn has(set: u64, i: u64) -> bool {
     set & bit(i) != 0
 }
 
 // The nibble x at each product.
-pub fn spread(x: u64) -> u64 {
+pub(crate) fn spread(x: u64) -> u64 {
     (x % 16) * 1229782938247303441
 }
 
 // The output where each literal sees the point a, but for the wires that have moved and show the other value.
-pub fn output(net: Network, a: u64, moved: u64) -> bool {
+pub(crate) fn output(net: Network, a: u64, moved: u64) -> bool {
     let failing = (spread(a) ^ moved ^ net.value) & net.care;
     let some = failing | (failing >> 1) | (failing >> 2) | (failing >> 3);
     some & net.present != net.present
 }
 
 // The network with a product more; a full one stays.
-pub fn push(net: Network, p: Product) -> Network {
+pub(crate) fn push(net: Network, p: Product) -> Network {
     let c = net.count;
     if 16 <= c {
         return net;
@@ -60,7 +60,7 @@ pub fn push(net: Network, p: Product) -> Network {
     }
 }
 
-pub fn product_at(net: Network, j: u64) -> Product {
+pub(crate) fn product_at(net: Network, j: u64) -> Product {
     if 16 <= j {
         return Product { care: 0, value: 0 };
     }
@@ -72,7 +72,7 @@ pub fn product_at(net: Network, j: u64) -> Product {
 }
 
 // The network without its product j.
-pub fn without(net: Network, j: u64) -> Network {
+pub(crate) fn without(net: Network, j: u64) -> Network {
     let mut rest = empty();
     for i in 0..net.count {
         if i != j {
@@ -83,7 +83,7 @@ pub fn without(net: Network, j: u64) -> Network {
 }
 
 // How many products n inputs have.
-pub fn products_of(n: u64) -> u64 {
+pub(crate) fn products_of(n: u64) -> u64 {
     if n == 2 {
         return 9;
     }
@@ -94,7 +94,7 @@ pub fn products_of(n: u64) -> u64 {
 }
 
 // The product of n inputs with the code's digits in base three as its bytes, input 0 first.
-pub fn product_of(n: u64, code: u64) -> Product {
+pub(crate) fn product_of(n: u64, code: u64) -> Product {
     let mut rest = code;
     let mut care = 0;
     let mut value = 0;
@@ -112,7 +112,7 @@ pub fn product_of(n: u64, code: u64) -> Product {
 }
 
 // The points of a product among the first 16.
-pub fn points(p: Product) -> u64 {
+pub(crate) fn points(p: Product) -> u64 {
     let mut set = 0;
     for x in 0..16u64 {
         if (x ^ p.value) & p.care == 0 {

@@ -86,7 +86,7 @@ fn growth(p: Instance, k: u64, x: u64) -> Blocked {
 }
 
 // The first required cube that blocks, by transition and then label.
-pub fn first_blocked(p: Instance) -> Blocked {
+pub(crate) fn first_blocked(p: Instance) -> Blocked {
     for i in 0..128u64 {
         let k = i / 16;
         let x = i % 16;
@@ -100,7 +100,7 @@ pub fn first_blocked(p: Instance) -> Blocked {
 }
 
 // Whether a refusal 10 names the first cube that blocks; in any case a 1 of the transition, and a 0.
-pub fn names_blocked(p: Instance, r: Refusal) -> bool {
+pub(crate) fn names_blocked(p: Instance, r: Refusal) -> bool {
     let k = r.transition as u64;
     let x = r.point as u64;
     let zero = r.lowest as u64;
@@ -129,7 +129,7 @@ fn is_covered(net: Network, set: u64) -> bool {
 }
 
 // The first required cube that lies in no product: its transition and its label.
-pub fn first_uncovered(p: Instance, net: Network) -> Fault {
+pub(crate) fn first_uncovered(p: Instance, net: Network) -> Fault {
     for i in 0..128u64 {
         let k = i / 16;
         let x = i % 16;

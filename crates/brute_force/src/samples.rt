@@ -78,7 +78,7 @@ fn table_with(n: u64, code: u64) -> Instance {
 }
 
 // All 81 tables of two inputs, each with all 16 transitions.
-pub fn all_of_two(counts: &mut [u64; LEN]) {
+pub(crate) fn all_of_two(counts: &mut [u64; LEN]) {
     for code in 0..1296u64 {
         let pair = code % 16;
         let p = with_transition(table_with(2, code / 16), pair % 4, pair / 4);
@@ -304,7 +304,7 @@ fn tries(p: Instance, seed: u64, counts: &mut [u64; LEN]) {
 }
 
 // Seeded instances of n inputs with up to `most` transitions.
-pub fn sample(n: u64, most: u64, rounds: u64, seed: u64, counts: &mut [u64; LEN]) {
+pub(crate) fn sample(n: u64, most: u64, rounds: u64, seed: u64, counts: &mut [u64; LEN]) {
     let mut s = seed;
     for _ in 0..rounds {
         s = next(s);

@@ -30,12 +30,12 @@ fn append(list: Codes, code: u64) -> Codes {
     next
 }
 
-pub fn holds_no_zero(p: Instance, q: Product) -> bool {
+pub(crate) fn holds_no_zero(p: Instance, q: Product) -> bool {
     points(q) & p.zeros == 0
 }
 
 // The products that contain no 0.
-pub fn implicants(p: Instance) -> Codes {
+pub(crate) fn implicants(p: Instance) -> Codes {
     let mut list = Codes {
         codes: [0u64; 81],
         count: 0,
@@ -145,7 +145,7 @@ fn with_four(
 }
 
 // Whether some set of up to three products is hazard-free, and of up to four where there are three inputs.
-pub fn some_hazard_free(p: Instance, counts: &mut [u64; LEN]) -> bool {
+pub(crate) fn some_hazard_free(p: Instance, counts: &mut [u64; LEN]) -> bool {
     if is_hazard_free(p, empty(), counts) {
         return true;
     }

@@ -83,7 +83,7 @@ fn compare(p: Instance, net: Network, v: Verdict, counts: &mut [u64; LEN]) {
 }
 
 // A network through the verifier; the table and the transitions are the instance's bytes.
-pub fn verifies(
+pub(crate) fn verifies(
     p: Instance,
     table: &[u8],
     transitions: &[u16],
@@ -102,12 +102,12 @@ pub fn verifies(
 }
 
 // Whether the verifier passes a network that stands in bytes.
-pub fn passes(n: usize, table: &[u8], transitions: &[u16], bytes: &[u8]) -> bool {
+pub(crate) fn passes(n: usize, table: &[u8], transitions: &[u16], bytes: &[u8]) -> bool {
     is_passed(verify(n, table, transitions, bytes))
 }
 
 // Whether a call's refusal is the counterpart's, with no other field.
-pub fn same_refusal(own: Refused, r: Refusal) -> bool {
+pub(crate) fn same_refusal(own: Refused, r: Refusal) -> bool {
     if own.number != r.number as u64 {
         return false;
     }
@@ -131,7 +131,7 @@ fn is_refusal(own: Refused, v: Verdict) -> bool {
 }
 
 // The verifier refuses what the minimiser refuses by check 6 or 7.
-pub fn refuses(p: Instance, table: &[u8], transitions: &[u16], counts: &mut [u64; LEN]) {
+pub(crate) fn refuses(p: Instance, table: &[u8], transitions: &[u16], counts: &mut [u64; LEN]) {
     add(counts, REFUSED);
     let v = verify(p.n as usize, table, transitions, &[2u8; 0]);
     expect(counts, ACCEPTANCE, is_refusal(first_refused(p), v));

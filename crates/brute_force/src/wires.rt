@@ -102,7 +102,7 @@ fn right_values(p: Instance, net: Network) -> bool {
     true
 }
 
-pub fn hazard_free(p: Instance, net: Network) -> Found {
+pub(crate) fn hazard_free(p: Instance, net: Network) -> Found {
     if !right_values(p, net) {
         return Found::Hazard;
     }
