@@ -9,12 +9,12 @@ use lib.ListN.{length, take}
 use Rattle.hazard.specs.Search.{firstOf}
 use Rattle.hazard.specs.Refusal.{Refusal, refusal}
 use Rattle.hazard.proofs.Search.{none-some}
-use Rattle.quiet_text.specs.Form.{Form, Formed, flat}
-use Rattle.quiet_text.specs.Output.{refusalText}
-use Rattle.quiet_text.specs.Read.{Reading, problem, malformed}
+use Rattle.problem_text.specs.Form.{Form, Formed, flat}
+use Rattle.answer_text.specs.Output.{refusalText}
+use Rattle.problem_text.specs.Read.{Reading, problem, malformed}
 use Rattle.quiet_text.specs.Answer.{checks, Printed, Solved, Promise}
-use Rattle.quiet_text.specs.declared.read.Read.the-variants as read
-use Rattle.quiet_text.proofs.Forms.{form-unique}
+use Rattle.problem_text.specs.declared.read.Read.the-variants as read
+use Rattle.problem_text.proofs.Forms.{form-unique}
 use Rattle.quiet_text.proofs.Solving.{printed-within}
 
 -- What is counted for a problem lies in the buffer.

@@ -1,15 +1,2 @@
-pub mod Decimal
-pub mod Numbers
-pub mod Transitions
-pub mod Tables
-pub mod Forms
-pub mod Digits
-pub mod Ends
-pub mod Cells
-pub mod Listing
-pub mod Readings
-pub mod Writing
-pub mod Printing
-pub mod Replies
 pub mod Solving
 pub mod Answering

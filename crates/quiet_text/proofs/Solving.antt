@@ -24,13 +24,13 @@ use Rattle.hazard.proofs.Test.{T-and}
 use Rattle.hazard.proofs.Search.{none-some, firstOf-left, firstOf-right, firstOf-one, firstOf-append}
 use Rattle.hazard.proofs.Rules.{few-inputs, required-few}
 use Rattle.hazard.proofs.Promise.{block-number}
-use Rattle.quiet_text.specs.Decimal.{decimal}
-use Rattle.quiet_text.specs.Form.{newline, cell}
-use Rattle.quiet_text.specs.Output.{productsHead, productLines, networkText, field, refusalText}
-use Rattle.quiet_text.specs.Wrote.{Wrote}
+use Rattle.problem_text.specs.Decimal.{decimal}
+use Rattle.problem_text.specs.Form.{newline, cell}
+use Rattle.answer_text.specs.Output.{productsHead, productLines, networkText, field, refusalText}
+use Rattle.answer_text.specs.Wrote.{Wrote}
 use Rattle.quiet_text.specs.Answer.{checks, Printed, Solved}
-use Rattle.quiet_text.proofs.Decimal.{spelled-length}
-use Rattle.quiet_text.proofs.Replies.{lines-most}
+use Rattle.problem_text.proofs.Decimal.{spelled-length}
+use Rattle.answer_text.proofs.Replies.{lines-most}
 
 -- What every check of a list finds has a property; so has what the first one finds.
 data Each (P : Refusal → Type 0) : List (Option Refusal) → Type 0 where

@@ -3,13 +3,13 @@ ghost use mathlib.Core.Option.{some};
 ghost use Prim.Native.Nat.{_≤_, _<_};
 ghost use lib.ListN.{length};
 ghost use Rattle.quiet_text.specs.Answer.{writtenOf, Solved, Promise};
-use crate::read::Read;
-use crate::read::read_problem;
-use crate::reply::put_network;
-use crate::reply::put_refusal;
+use answer_text::reply::put_network;
+use answer_text::reply::put_refusal;
 use minimiser::minimise::minimise;
 use minimiser::network::Minimised;
 use problem::refusal::refuse;
+use problem_text::read::Read;
+use problem_text::read::read_problem;
 
 // How many bytes of the buffer are the output; or the buffer is too short for every output, and is left as it was.
 pub enum Output {

@@ -1,10 +1,2 @@
-// Text in, text out: the form of a problem, and the form of the minimiser's answer.
+// Text in, text out: a problem's text, and the text of the minimiser's answer to it.
 pub mod answer;
-pub mod count;
-pub mod field;
-pub mod number;
-pub mod put;
-pub mod read;
-pub mod reply;
-pub mod table;
-pub mod transition;

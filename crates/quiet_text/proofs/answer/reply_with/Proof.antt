@@ -2,9 +2,9 @@ use mathlib.Core.Path.{subst}
 use native.Mathlib.Omega.{arith}
 use borrow.Author.Needs.{needs}
 use Rattle.hazard.specs.Refusal.{Refusal, refusal}
-use Rattle.quiet_text.specs.Output.{refusalText}
-use Rattle.quiet_text.specs.Wrote.{Wrote}
-use Rattle.quiet_text.specs.Read.{Reading}
+use Rattle.answer_text.specs.Output.{refusalText}
+use Rattle.answer_text.specs.Wrote.{Wrote}
+use Rattle.problem_text.specs.Read.{Reading}
 use Rattle.quiet_text.proofs.Solving.{printed-from, refusal-length}
 use Rattle.quiet_text.proofs.Answering.{promise-malformed, promise-solved, table-within, list-within}
 use Rattle.quiet_text.proofs.answer.reply_with.Statement.{statement}

@@ -1,0 +1,3 @@
+pub mod Writing
+pub mod Printing
+pub mod Replies

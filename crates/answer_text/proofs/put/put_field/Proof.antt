@@ -1,0 +1,25 @@
+use native.Mathlib.Omega.{arith}
+use lib.ListN.{length-set}
+use borrow.Author.Needs.{needs}
+use Rattle.answer_text.proofs.Writing.{wrote-byte, wrote-then}
+use Rattle.answer_text.proofs.put.put_field.Statement.{statement}
+use Rattle.answer_text.proofs.put.put_field.Tie as tie
+
+slice-write-out : tie.Need-slice-write-out
+slice-write-out c = search needs
+
+add-put-number : tie.Need-add-put-number
+add-put-number c = search needs
+
+put-number-requires : tie.Need-put-number-requires
+put-number-requires c κs = rw length-set (omega arith)
+
+same-length : tie.Need-same-length
+same-length c = simp length-set at (c .before .before .put-number .kept .1 .0)
+
+returns : tie.Need-returns
+returns c = wrote-then (wrote-byte _ _ _) (c .before .before .put-number .ensures)
+
+pub put-field-spec : {M : Type 1} → statement M
+put-field-spec =
+    tie.close (tie.spec slice-write-out add-put-number put-number-requires same-length returns)

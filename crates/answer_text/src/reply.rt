@@ -1,0 +1,40 @@
+// The output for the minimiser's answer, written from the output's beginning on.
+ghost use Prim.Native.Nat.{_*_, _≤_};
+ghost use mathlib.Core.List.{_∷_, _++_};
+ghost use lib.ListN.{length};
+ghost use Rattle.hazard.specs.Verdict.{cut};
+ghost use Rattle.problem.specs.Answer.{refusalOf};
+ghost use Rattle.problem_text.specs.Decimal.{decimal};
+ghost use Rattle.problem_text.specs.Form.{newline};
+ghost use Rattle.answer_text.specs.Output.{productsHead, productLines, refusalText};
+ghost use Rattle.answer_text.specs.Wrote.{Wrote};
+use crate::put::put_bytes;
+use crate::put::put_field;
+use crate::put::put_number;
+use crate::put::put_products;
+use problem::refusal::Refusal;
+
+// The number and the fields of a refusal.
+pub fn put_refusal(r: Refusal, out: &mut [u8]) -> usize
+    requires { ⌜ 38 ≤ length (now out) ⌝ }
+    ensures { λ next. ⌜ Wrote (now (out .entry)) 0 (refusalText (refusalOf r)) (now (out .exit)) next ⌝ }
+{
+    let mut at = put_bytes(b"refused", out, 0);
+    at = put_field(r.number, out, at);
+    at = put_field(r.transition, out, at);
+    at = put_field(r.point, out, at);
+    at = put_field(r.steps, out, at);
+    at = put_field(r.lowest, out, at);
+    put_bytes(b"\n", out, at)
+}
+
+// The count of the products, and the products.
+pub fn put_network(n: usize, count: usize, products: &[u8], out: &mut [u8]) -> usize
+    requires { ⌜ (count * n ≤ length (now products)) × (n ≤ 10) × (count ≤ 2048) × (22543 ≤ length (now out)) ⌝ }
+    ensures { λ next. ⌜ Wrote (now (out .entry)) 0 (productsHead ++ (decimal count ++ (newline ∷ productLines (cut n count (now (products .entry)))))) (now (out .exit)) next ⌝ }
+{
+    let mut at = put_bytes(b"products ", out, 0);
+    at = put_number(count as u16, out, at);
+    at = put_bytes(b"\n", out, at);
+    put_products(n, count, products, out, at)
+}
