@@ -46,7 +46,7 @@ pub fn put_number(x: u16, out: &mut [u8], at: usize) -> usize
 // A number with a space before it.
 pub fn put_field(x: u16, out: &mut [u8], at: usize) -> usize
     requires { ⌜ at + 6 ≤ length (now out) ⌝ }
-    ensures { λ r. ⌜ Wrote (now (out .entry)) at (field x) (now (out .exit)) r ⌝ }
+    ensures { λ r. ⌜ Wrote (now (out .entry)) at (field x) (now (out .exit)) r × (r ≤ at + 6) ⌝ }
 {
     out[at] = 32;
     put_number(x, out, at + 1)

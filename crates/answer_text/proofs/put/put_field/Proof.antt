@@ -2,6 +2,7 @@ use native.Mathlib.Omega.{arith}
 use lib.ListN.{length-set}
 use borrow.Author.Needs.{needs}
 use Rattle.answer_text.proofs.Writing.{wrote-byte, wrote-then}
+use Rattle.answer_text.proofs.Replies.{field-next}
 use Rattle.answer_text.proofs.put.put_field.Statement.{statement}
 use Rattle.answer_text.proofs.put.put_field.Tie as tie
 
@@ -18,7 +19,10 @@ same-length : tie.Need-same-length
 same-length c = simp length-set at (c .before .before .put-number .kept .1 .0)
 
 returns : tie.Need-returns
-returns c = wrote-then (wrote-byte _ _ _) (c .before .before .put-number .ensures)
+returns c =
+    let a = c .before .before .before .before .before .args in
+    let w = wrote-then (wrote-byte _ _ _) (c .before .before .put-number .ensures) in
+    (w, field-next (a .x) w)
 
 pub put-field-spec : {M : Type 1} → statement M
 put-field-spec =

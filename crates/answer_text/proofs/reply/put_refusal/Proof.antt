@@ -1,7 +1,6 @@
-use native.Mathlib.Omega.{arith}
 use borrow.Author.Needs.{needs}
 use Rattle.problem.specs.Answer.{refusalOf}
-use Rattle.answer_text.proofs.Replies.{field-next, refusal-wrote}
+use Rattle.answer_text.proofs.Replies.{refusal-wrote}
 use Rattle.answer_text.proofs.reply.put_refusal.Statement.{statement}
 use Rattle.answer_text.proofs.reply.put_refusal.Tie as tie
 
@@ -15,57 +14,22 @@ put-field-requires : tie.Need-put-field-requires
 put-field-requires c κs = search needs
 
 put-field-requires-2 : tie.Need-put-field-requires-2
-put-field-requires-2 c κs =
-    let r = c .before .before .before .before .before .before .before .before .before .before .before .args .r in
-    omega (
-      arith,
-      field-next (r .number) (c .before .before .before .put-field .ensures),
-    )
+put-field-requires-2 c κs = search needs
 
 put-field-requires-3 : tie.Need-put-field-requires-3
-put-field-requires-3 c κs =
-    let r = c .before .before .before .before .before .before .before .before .before .before .before .before .before .before .before .args .r in
-    omega (
-      arith,
-      field-next (r .number) (c .before .before .before .before .before .before .before .put-field .ensures),
-      field-next (r .transition) (c .before .before .before .put-field2 .ensures),
-    )
+put-field-requires-3 c κs = search needs
 
 put-field-requires-4 : tie.Need-put-field-requires-4
-put-field-requires-4 c κs =
-    let r = c .before .before .before .before .before .before .before .before .before .before .before .before .before .before .before .before .before .before .before .args .r in
-    omega (
-      arith,
-      field-next (r .number) (c .before .before .before .before .before .before .before .before .before .before .before .put-field .ensures),
-      field-next (r .transition) (c .before .before .before .before .before .before .before .put-field2 .ensures),
-      field-next (r .point) (c .before .before .before .put-field3 .ensures),
-    )
+put-field-requires-4 c κs = search needs
 
 put-field-requires-5 : tie.Need-put-field-requires-5
-put-field-requires-5 c κs =
-    let r = c .before .before .before .before .before .before .before .before .before .before .before .before .before .before .before .before .before .before .before .before .before .before .before .args .r in
-    omega (
-      arith,
-      field-next (r .number) (c .before .before .before .before .before .before .before .before .before .before .before .before .before .before .before .put-field .ensures),
-      field-next (r .transition) (c .before .before .before .before .before .before .before .before .before .before .before .put-field2 .ensures),
-      field-next (r .point) (c .before .before .before .before .before .before .before .put-field3 .ensures),
-      field-next (r .steps) (c .before .before .before .put-field4 .ensures),
-    )
+put-field-requires-5 c κs = search needs
 
 slice-aggregate-put-bytes-2 : tie.Need-slice-aggregate-put-bytes-2
 slice-aggregate-put-bytes-2 c = search needs
 
 put-bytes-requires-2 : tie.Need-put-bytes-requires-2
-put-bytes-requires-2 c κs =
-    let r = c .before .before .before .before .before .before .before .before .before .before .before .before .before .before .before .before .before .before .before .before .before .before .before .before .before .before .before .before .args .r in
-    omega (
-      arith,
-      field-next (r .number) (c .before .before .before .before .before .before .before .before .before .before .before .before .before .before .before .before .before .before .before .before .put-field .ensures),
-      field-next (r .transition) (c .before .before .before .before .before .before .before .before .before .before .before .before .before .before .before .before .put-field2 .ensures),
-      field-next (r .point) (c .before .before .before .before .before .before .before .before .before .before .before .before .put-field3 .ensures),
-      field-next (r .steps) (c .before .before .before .before .before .before .before .before .put-field4 .ensures),
-      field-next (r .lowest) (c .before .before .before .before .put-field5 .ensures),
-    )
+put-bytes-requires-2 c κs = search needs
 
 same-length : tie.Need-same-length
 same-length c = search needs
@@ -74,11 +38,11 @@ returns : tie.Need-returns
 returns c =
     refusal-wrote (refusalOf (c .before .before .before .before .before .before .before .before .before .before .before .before .before .before .before .before .before .before .before .before .before .before .before .before .before .before .before .before .before .before .before .args .r))
     (c .before .before .before .before .before .before .before .before .before .before .before .before .before .before .before .before .before .before .before .before .before .before .before .before .before .before .before .put-bytes .ensures)
-    (c .before .before .before .before .before .before .before .before .before .before .before .before .before .before .before .before .before .before .before .before .before .before .before .put-field .ensures)
-    (c .before .before .before .before .before .before .before .before .before .before .before .before .before .before .before .before .before .before .before .put-field2 .ensures)
-    (c .before .before .before .before .before .before .before .before .before .before .before .before .before .before .before .put-field3 .ensures)
-    (c .before .before .before .before .before .before .before .before .before .before .before .put-field4 .ensures)
-    (c .before .before .before .before .before .before .before .put-field5 .ensures)
+    (c .before .before .before .before .before .before .before .before .before .before .before .before .before .before .before .before .before .before .before .before .before .before .before .put-field .ensures .0)
+    (c .before .before .before .before .before .before .before .before .before .before .before .before .before .before .before .before .before .before .before .put-field2 .ensures .0)
+    (c .before .before .before .before .before .before .before .before .before .before .before .before .before .before .before .put-field3 .ensures .0)
+    (c .before .before .before .before .before .before .before .before .before .before .before .put-field4 .ensures .0)
+    (c .before .before .before .before .before .before .before .put-field5 .ensures .0)
     (c .before .before .put-bytes2 .ensures)
 
 pub put-refusal-spec : {M : Type 1} → statement M
