@@ -34,11 +34,11 @@ fn packed_answer(m: Minimised) -> u64
 
 // A verdict's five fields in their places.
 fn packed(number: u8, refusal: u8, product: u16, transition: u16, point: u16) -> u64
-    ensures { λ w. ⌜ w ≡ number + 256 * refusal + 65536 * (product + 65536 * (transition + 65536 * point)) ⌝ }
+    ensures { λ w. ⌜ w ≡ number + 256 * (refusal + 256 * (product + 65536 * (transition + 65536 * point))) ⌝ }
 {
-    let low = number as u64 + 256 * (refusal as u64);
     let places = transition as u64 + 65536 * (point as u64);
-    low + 65536 * (product as u64 + 65536 * places)
+    let fields = refusal as u64 + 256 * (product as u64 + 65536 * places);
+    number as u64 + 256 * fields
 }
 
 // The verifier's verdict.
