@@ -1,5 +1,5 @@
 // The product that is chosen for a required cube.
-ghost use Prim.Native.Nat.{ℕ, _<_};
+ghost use Prim.Native.Nat.{ℕ, _≤_, _<_};
 ghost use mathlib.Core.List.{map};
 ghost use lib.ListN.{length, getD};
 ghost use Rattle.hazard.specs.Growth as spec;
@@ -27,8 +27,22 @@ fn grown_over(n: usize, off: &[u64], privileged: &[u64], c: Cube, d: Cube) -> Cu
     absorbed(n, off, privileged, c, d)
 }
 
-// Supercube-dhf of required cube i, grown over the required cubes after it where that stays legal, and expanded to a dhf-prime. The
-// growth over the others makes for fewer products; no promise rests on it.
+// So many required cubes after its own are tried with a product. Trying all would make the time grow with their square.
+const REACH: usize = 32;
+
+// Where the trying ends.
+fn reach_of(i: usize, count: usize) -> usize
+    requires { ⌜ i < count ⌝ }
+    ensures { λ r. ⌜ r ≤ count ⌝ }
+{
+    if count - i <= REACH {
+        return count;
+    }
+    i + REACH
+}
+
+// Supercube-dhf of required cube i, grown over the next required cubes where that stays legal, and expanded to a dhf-prime. The growth
+// over the others makes for fewer products; no promise rests on it.
 pub fn product_for(n: usize, off: &[u64], privileged: &[u64], required: &[u64], i: usize) -> Cube
     requires { ⌜ Ready n (now off) × (i < length (now required)) ⌝ }
     requires { ⌜ ((k : ℕ) → CleanWord n (getD (now required) k 0)) ⌝ }
@@ -37,8 +51,9 @@ pub fn product_for(n: usize, off: &[u64], privileged: &[u64], required: &[u64], 
 {
     let c = cube_in(required[i]);
     let mut p = absorbed(n, off, privileged, c, c);
+    let end = reach_of(i, required.len());
     let mut k = i + 1;
-    while k < required.len() {
+    while k < end {
         p = grown_over(n, off, privileged, p, cube_in(required[k]));
         k += 1;
     }

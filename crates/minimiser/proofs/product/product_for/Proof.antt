@@ -9,10 +9,10 @@ use Rattle.minimiser.proofs.product.product_for.Statement.{statement}
 use Rattle.minimiser.proofs.product.product_for.Tie as tie
 
 abbrev Inv-loop : tie.InvT-loop
-Inv-loop n off privileged required i p₀ k₀ p k = Stage n off privileged (getD required i 0) p
+Inv-loop n off privileged required i p₀ end k₀ p k = Stage n off privileged (getD required i 0) p
 
 abbrev μ-loop : tie.MeasureT-loop
-μ-loop n off privileged required i p₀ k₀ p k = length required - k
+μ-loop n off privileged required i p₀ end k₀ p k = end - k
 
 mul-cube-in : tie.Need-mul-cube-in Inv-loop μ-loop
 mul-cube-in c = search needs
@@ -26,14 +26,17 @@ cube-in-requires c κs = search needs
 absorbed-requires : tie.Need-absorbed-requires Inv-loop μ-loop
 absorbed-requires c κs = let s = c .before .before .before .before .before in (s .pre .0 .0, stands-in (s .pre .1 .0 (s .args .i)) (c .cube-in .ensures) .fits)
 
+reach-of-requires : tie.Need-reach-of-requires Inv-loop μ-loop
+reach-of-requires c κs = search needs
+
 add-k : tie.Need-add-k Inv-loop μ-loop
 add-k c = search needs
 
 loop-holds : tie.Need-loop-holds Inv-loop μ-loop
 loop-holds c =
-    let s = c .before .before .before .before .before .before in
+    let s = c .before .before .before .before .before .before .before in
     let w = getD (s .args .required .now) (s .args .i) 0 in
-    stage-start (s .args .n) (s .args .off .now) (s .args .privileged .now) (c .before .cube-in .result) (stands-in {w = w} (s .pre .1 .0 (s .args .i)) (c .before .cube-in .ensures) .is) (s .pre .1 .1) (c .absorbed .ensures)
+    stage-start (s .args .n) (s .args .off .now) (s .args .privileged .now) (c .before .before .cube-in .result) (stands-in {w = w} (s .pre .1 .0 (s .args .i)) (c .before .before .cube-in .ensures) .is) (s .pre .1 .1) (c .before .absorbed .ensures)
 
 mul-cube-in-2 : tie.Need-mul-cube-in-2 Inv-loop μ-loop
 mul-cube-in-2 c = search needs
@@ -45,7 +48,7 @@ cube-in-requires-2 : tie.Need-cube-in-requires-2 Inv-loop μ-loop
 cube-in-requires-2 c κs = search needs
 
 grown-over-requires : tie.Need-grown-over-requires Inv-loop μ-loop
-grown-over-requires c κs = (c .before .before .before .before .before .before .before .before .before .before .pre .0 .0, c .before .before .before .loop .inv .fits)
+grown-over-requires c κs = (c .before .before .before .before .before .before .before .before .before .before .before .pre .0 .0, c .before .before .before .loop .inv .fits)
 
 add-k-2 : tie.Need-add-k-2 Inv-loop μ-loop
 add-k-2 c = search needs
@@ -54,13 +57,13 @@ loop-less : tie.Need-loop-less Inv-loop μ-loop
 loop-less c = search needs
 
 loop-again : tie.Need-loop-again Inv-loop μ-loop
-loop-again c = let s = c .before .before .before .before .before .before .before .before .before .before .before in stage-step (s .args .n) (s .args .off .now) (s .args .privileged .now) (c .before .before .before .before .loop .inv) (c .grown-over .ensures)
+loop-again c = let s = c .before .before .before .before .before .before .before .before .before .before .before .before in stage-step (s .args .n) (s .args .off .now) (s .args .privileged .now) (c .before .before .before .before .loop .inv) (c .grown-over .ensures)
 
 expanded-requires : tie.Need-expanded-requires Inv-loop μ-loop
-expanded-requires c κs = (c .before .before .before .before .before .before .before .before .pre .0 .0, c .before .loop .inv .fits)
+expanded-requires c κs = (c .before .before .before .before .before .before .before .before .before .pre .0 .0, c .before .loop .inv .fits)
 
 returns : tie.Need-returns Inv-loop μ-loop
-returns c = let s = c .before .before .before .before .before .before .before .before .before in stage-end (s .args .n) (s .args .off .now) (s .args .privileged .now) (c .before .before .loop .inv) (c .expanded .ensures)
+returns c = let s = c .before .before .before .before .before .before .before .before .before .before in stage-end (s .args .n) (s .args .off .now) (s .args .privileged .now) (c .before .before .loop .inv) (c .expanded .ensures)
 
 pub product-for-spec : {M : Type 1} → statement M
 product-for-spec =
@@ -72,6 +75,7 @@ product-for-spec =
     shared-slice-read-cube-in
     cube-in-requires
     absorbed-requires
+    reach-of-requires
     add-k
     loop-holds
     mul-cube-in-2
