@@ -9,16 +9,10 @@ use Rattle.hazard.specs.Growth as spec
 use Rattle.cube.specs.Mask.{cubeOf, Clean}
 use Rattle.cube.specs.Entry.{privilegedIn}
 use Rattle.cube.specs.PointSet.{inSet}
-use Rattle.expand.specs.declared.zero.Found.{Found}
-use Rattle.expand.specs.declared.zero.Found.the-variants as found
 use Rattle.expand.specs.declared.meeting.Met.{Met}
 use Rattle.expand.specs.declared.meeting.Met.the-variants as met
 use Rattle.expand.specs.declared.growth.Grown.{Grown}
 use Rattle.expand.specs.declared.growth.Grown.the-variants.{Legal, Blocked}
-
-abbrev pub foundOf : Found → Option ℕ
-foundOf (found.At x) = some x
-foundOf found.Nothing = none
 
 abbrev pub metOf : ℕ → Met → Option Privileged
 metOf n (met.At w) = some (privilegedIn n w)

@@ -4,11 +4,11 @@ ghost use Rattle.expand.specs.Ready.{Ready};
 ghost use Rattle.expand.specs.Answer.{Grows};
 use crate::meeting::Met;
 use crate::meeting::first_illegal;
-use crate::zero::Found;
 use crate::zero::lowest_zero;
 use cube::entry::point_in;
 use cube::mask::Cube;
 use cube::mask::joined;
+use problem::scan::Found;
 
 // How growth ends: legal, with the cube and the steps taken, or blocked, with the lowest zero and the steps taken.
 pub enum Grown {

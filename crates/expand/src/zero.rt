@@ -3,17 +3,12 @@ ghost use mathlib.Core.Path.{_≡_};
 ghost use Rattle.hazard.specs.Implicant.{lowestZero};
 ghost use Rattle.cube.specs.Mask.{cubeOf, Clean};
 ghost use Rattle.cube.specs.PointSet.{inSet};
+ghost use Rattle.problem.specs.Codes.{foundOf};
 ghost use Rattle.expand.specs.Ready.{Ready};
-ghost use Rattle.expand.specs.Answer.{foundOf};
 use cube::mask::Cube;
 use cube::point::next;
 use cube::point_set::holds;
-
-// A point, or none.
-pub enum Found {
-    At(u16),
-    Nothing,
-}
+use problem::scan::Found;
 
 // The lowest point of the OFF-set in the cube. Only the cube's points are looked at, from its lowest on.
 pub fn lowest_zero(n: usize, off: &[u64], c: Cube) -> Found

@@ -15,9 +15,9 @@ use cube::entry::point_in;
 use cube::entry::transition_in;
 use expand::meeting::Met;
 use expand::meeting::first_illegal;
-use expand::zero::Found;
 use expand::zero::lowest_zero;
 use problem::refusal::Refusal;
+use problem::scan::Found;
 
 // A product with a point or a transition, or none.
 pub enum Place {

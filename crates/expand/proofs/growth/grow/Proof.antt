@@ -9,7 +9,8 @@ use Rattle.hazard.specs.Growth.{grow}
 use Rattle.cube.specs.Mask.{cubeOf, Clean}
 use Rattle.cube.specs.Entry.{privilegedIn}
 use Rattle.cube.specs.PointSet.{inSet}
-use Rattle.expand.specs.Answer.{foundOf, metOf}
+use Rattle.problem.specs.Codes.{foundOf}
+use Rattle.expand.specs.Answer.{metOf}
 use Rattle.expand.proofs.Growing.{Growing, growing-start, growing-blocked, growing-legal, growing-step, growing-end}
 use Rattle.expand.proofs.growth.grow.Statement.{statement}
 use Rattle.expand.proofs.growth.grow.Tie as tie

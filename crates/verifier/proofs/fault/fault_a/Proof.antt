@@ -10,7 +10,7 @@ use Rattle.hazard.specs.Verdict.{faultA}
 use Rattle.cube.specs.PointSet.{inSet}
 use Rattle.cube.proofs.Scan.{Places, places-start, places-hit, places-miss, places-end}
 use Rattle.cube.proofs.Word.{stands-in}
-use Rattle.expand.specs.Answer.{foundOf}
+use Rattle.problem.specs.Codes.{foundOf}
 use Rattle.choice.specs.Network.{cubeIn, networkIn}
 use Rattle.verifier.proofs.Looks.{product-read}
 use Rattle.verifier.proofs.fault.fault_a.Statement.{statement}
