@@ -5,3 +5,4 @@ pub mod Following
 pub mod Digits
 pub mod Scan
 pub mod Word
+pub mod Left

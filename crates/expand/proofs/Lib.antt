@@ -1,4 +1,3 @@
-pub mod Words
 pub mod Growing
 pub mod Outcome
 pub mod Raising

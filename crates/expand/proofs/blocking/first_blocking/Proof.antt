@@ -11,7 +11,7 @@ use Rattle.cube.specs.PointSet.{inSet}
 use Rattle.cube.proofs.Word.{stands-in}
 use Rattle.expand.specs.declared.growth.Grown.{Grown}
 use Rattle.expand.specs.Answer.{grownOf}
-use Rattle.expand.proofs.Words.{Left, left-start, left-end, check-hit, check-miss}
+use Rattle.cube.proofs.Left.{Left, left-start, left-end, check-hit, check-miss}
 use Rattle.expand.proofs.Outcome.{checked}
 use Rattle.expand.proofs.blocking.first_blocking.Statement.{statement}
 use Rattle.expand.proofs.blocking.first_blocking.Tie as tie

@@ -8,7 +8,7 @@ use Rattle.hazard.specs.Search.{find}
 use Rattle.hazard.specs.Implicant.{illegal}
 use Rattle.cube.specs.Mask.{cubeOf}
 use Rattle.cube.specs.Entry.{privilegedIn}
-use Rattle.expand.proofs.Words.{Left, left-start, left-end, find-hit, find-miss}
+use Rattle.cube.proofs.Left.{Left, left-start, left-end, find-hit, find-miss}
 use Rattle.expand.proofs.meeting.first_illegal.Statement.{statement}
 use Rattle.expand.proofs.meeting.first_illegal.Tie as tie
 
