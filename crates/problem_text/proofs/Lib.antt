@@ -8,3 +8,4 @@ pub mod Ends
 pub mod Cells
 pub mod Listing
 pub mod Readings
+pub mod Examples
