@@ -1,0 +1,91 @@
+//! The proved calls and the independent ones, timed on the same inputs in one run.
+//!
+//! Without arguments: all tables. `once IMPLEMENTATION CALL KIND TIMES` runs one of them alone, for counting instructions:
+//! IMPLEMENTATION is `proved`, `independent`, `joining` or `none` (which only makes the inputs), CALL `minimise` or `verify`, KIND `typical`, `large`
+//! or `worst`.
+
+mod cases;
+mod timing;
+
+use cases::{growth_by_inputs, growth_by_required, growth_by_transitions, kind, Cases, KINDS};
+use timing::{run, Call, Implementation};
+
+fn main() {
+    let words: Vec<String> = std::env::args().skip(1).collect();
+    let words: Vec<&str> = words.iter().map(String::as_str).collect();
+    match words[..] {
+        [] => tables(),
+        ["once", implementation, call, kind, times] => {
+            once(implementation, call, kind, times.parse().expect("times"))
+        }
+        _ => panic!("once IMPLEMENTATION CALL KIND TIMES"),
+    }
+}
+
+fn once(implementation: &str, call: &str, name: &str, times: usize) {
+    let call = match call {
+        "minimise" => Call::Minimise,
+        "verify" => Call::Verify,
+        _ => panic!("minimise or verify"),
+    };
+    let implementation = match implementation {
+        "proved" => Some(Implementation::Proved),
+        "independent" => Some(Implementation::Independent),
+        "joining" => Some(Implementation::Joining),
+        "none" => None,
+        _ => panic!("proved, independent, joining or none"),
+    };
+    let mut cases = kind(name);
+    println!("calls {}", times * cases.cases.len());
+    if let Some(implementation) = implementation {
+        for _ in 0..times {
+            run(implementation, call, &mut cases);
+        }
+    }
+}
+
+fn tables() {
+    for call in [Call::Minimise, Call::Verify] {
+        println!("{call:?}");
+        table("kind of input", KINDS.map(kind).into(), call);
+        table("inputs, 20 transitions", growth_by_inputs(), call);
+        table("transitions, 8 inputs", growth_by_transitions(), call);
+        table("required cubes, 10 inputs", growth_by_required(), call);
+    }
+}
+
+fn table(title: &str, rows: Vec<Cases>, call: Call) {
+    println!();
+    match call {
+        Call::Minimise => {
+            println!("| {title} | required cubes | products (proved, independent, joining) | proved, µs | independent, µs | ratio | joining, µs | ratio |");
+            println!("|---|---|---|---|---|---|---|---|");
+        }
+        Call::Verify => {
+            println!(
+                "| {title} | required cubes | products | proved, µs | independent, µs | ratio |"
+            );
+            println!("|---|---|---|---|---|---|");
+        }
+    }
+    for mut cases in rows {
+        let [proved, independent, joining] = timing::best(call, &mut cases);
+        print!("| {} | {:.0} | ", cases.name, cases.required());
+        match call {
+            Call::Minimise => {
+                let [p, i, j] = cases.products();
+                print!("{p:.1}, {i:.1}, {j:.1}");
+            }
+            Call::Verify => print!("{:.0}", cases.network()),
+        }
+        print!(
+            " | {proved:.2} | {independent:.2} | {:.2} |",
+            proved / independent
+        );
+        match call {
+            Call::Minimise => println!(" {joining:.2} | {:.2} |", proved / joining),
+            Call::Verify => println!(),
+        }
+    }
+    println!();
+}

@@ -1,0 +1,122 @@
+//! K1 to K12 and the edges, through both implementations.
+
+use differential::{same_minimise, same_verify, Tally};
+use problems::{threshold, Problem, Rng};
+
+fn problem(table: &str, transitions: &[u16]) -> Problem {
+    let table: Vec<u8> = table
+        .bytes()
+        .filter(|&b| b != b' ')
+        .map(|b| if b == b'-' { 2 } else { b - b'0' })
+        .collect();
+    Problem {
+        n: table.len().ilog2() as usize,
+        table,
+        transitions: transitions.to_vec(),
+    }
+}
+
+/// What both minimisers answer: the products in order, or the refusal as it is printed.
+fn minimised(p: &Problem) -> String {
+    let length = p.n * 2048;
+    let mut rng = Rng::new(1);
+    match same_minimise(&mut rng, &mut Tally::default(), p, length) {
+        Some(network) => {
+            let mut products: Vec<String> = network
+                .chunks(p.n)
+                .map(|product| product.iter().map(u8::to_string).collect())
+                .collect();
+            products.sort();
+            products.join(" ")
+        }
+        None => {
+            let answer =
+                quiet::packed::minimise(p.n, &p.table, &p.transitions, &mut vec![0; length]);
+            let field = |from: u32, width: u32| answer >> from & ((1 << width) - 1);
+            format!(
+                "refused {} {} {} {} {}",
+                field(0, 8),
+                field(8, 16),
+                field(24, 16),
+                field(40, 8),
+                field(48, 16)
+            )
+        }
+    }
+}
+
+/// What both verifiers answer: verdict, refusal, product, transition, point.
+fn verified(p: &Problem, products: &[&str]) -> [u64; 5] {
+    let network: Vec<u8> = products
+        .iter()
+        .flat_map(|product| product.bytes().map(|b| b - b'0'))
+        .collect();
+    same_verify(&mut Tally::default(), p, &network);
+    let answer = quiet::packed::verify(p.n, &p.table, &p.transitions, &network);
+    [
+        answer & 255,
+        answer >> 8 & 255,
+        answer >> 16 & 65535,
+        answer >> 32 & 65535,
+        answer >> 48,
+    ]
+}
+
+#[test]
+fn set_pieces() {
+    let k2 = problem("1110", &[0, 3]);
+    let k4 = problem("01010011", &[3, 7]);
+    let k7 = problem("0-11 1-10", &[2, 7, 6, 0]);
+    assert_eq!(minimised(&problem("11", &[0, 1])), "2");
+    assert_eq!(minimised(&k2), "02 20");
+    assert_eq!(minimised(&problem("0111", &[1, 2])), "refused 7 0 0 0 0");
+    assert_eq!(minimised(&k4), "112");
+    assert_eq!(verified(&k4, &["120", "211"]), [4, 0, 0, 0, 7]);
+    assert_eq!(verified(&k4, &["120", "211", "112"]), [1, 0, 0, 0, 0]);
+    assert_eq!(minimised(&k7), "refused 10 0 3 1 7");
+    assert_eq!(minimised(&problem("0-11 1-1-", &[2, 3, 6, 0])), "212 221");
+    assert_eq!(verified(&k7, &["210", "012", "021"]), [3, 0, 0, 1, 0]);
+    assert_eq!(minimised(&problem("1-", &[0, 1])), "refused 6 0 1 0 0");
+    assert_eq!(verified(&k2, &["22"]), [2, 0, 0, 0, 3]);
+    assert_eq!(verified(&k2, &[]), [4, 0, 0, 0, 1]);
+}
+
+#[test]
+fn edges_of_the_inputs() {
+    let ten = problem(&"1".repeat(1024), &[0, 1023]);
+    assert_eq!(minimised(&ten), "2222222222");
+    let eleven = problem(&"1".repeat(2048), &[0, 1023]);
+    assert_eq!(minimised(&eleven), "refused 1 0 0 0 0");
+}
+
+#[test]
+fn edges_of_the_transitions() {
+    let transitions = |count: usize| [0, 1].repeat(count);
+    assert_eq!(minimised(&problem("11", &transitions(64))), "2");
+    assert_eq!(
+        minimised(&problem("11", &transitions(65))),
+        "refused 4 0 0 0 0"
+    );
+}
+
+#[test]
+fn edges_of_the_required_cubes() {
+    let mut rng = Rng::new(1);
+    let most = threshold(&mut rng, 2048);
+    let count = fast::required_count(10, &most.table, &most.transitions);
+    assert_eq!(count, Ok(2048));
+    assert!(!minimised(&most).starts_with("refused"));
+    let above = threshold(&mut rng, 2049);
+    assert_eq!(minimised(&above), "refused 8 0 0 0 0");
+}
+
+#[test]
+fn edges_of_the_network() {
+    let p = problem("11", &[0, 1]);
+    let most = ["2"; 2048];
+    assert_eq!(verified(&p, &most), [1, 0, 0, 0, 0]);
+    assert_eq!(verified(&p, &["2"; 2049]), [0, 11, 0, 0, 0]);
+    let odd = problem("1111", &[0, 1]);
+    assert_eq!(verified(&odd, &["2"]), [0, 11, 0, 0, 0]);
+    assert_eq!(verified(&odd, &["22", "23"]), [0, 12, 1, 0, 0]);
+}
