@@ -1,14 +1,13 @@
 -- From the answer for the stored sets to the minimiser's promise.
-use mathlib.Core.Path.{_≡_, refl, sym, ap, _∙_, fun-ext, subst}
+use mathlib.Core.Path.{_≡_, refl, sym, ap, _∙_}
 use mathlib.Core.Bool.{Bool}
-use mathlib.Core.List.{List, [], _∷_, _++_, map, List·Memᴰ, Memᴰ·map}
+use mathlib.Core.List.{List, [], _∷_, _++_, map, Memᴰ·map}
 use mathlib.Core.Option.{Option, none, some, Option·some-injective}
-use Prim.Native.Nat.{ℕ, _*_, _-_, _≤_, _<_}
-use native.Mathlib.Nat.{sub-zero, mul-comm, mul-le-mul, not-le-of-lt}
+use Prim.Native.Nat.{ℕ, _*_, _≤_, _<_}
+use native.Mathlib.Nat.{mul-comm, mul-le-mul, not-le-of-lt}
 use native.Mathlib.Omega.{arith}
 use lib.Dec.{ltb, lt→ltb, ltb→lt}
 use lib.ListN.{length, getD, take, drop, length-map}
-use lib.Seq.{length-take-le}
 use Rattle.hazard.specs.Search.{firstOf}
 use Rattle.hazard.specs.Transition as transition
 use Rattle.hazard.specs.Sets as sets
@@ -19,10 +18,9 @@ use Rattle.hazard.proofs.Search.{none-some, firstOf-map, firstOf-left, firstOf-
 use Rattle.hazard.proofs.Rules.{few-inputs, required-few}
 use Rattle.hazard.proofs.Minimal.{block-none, minimal}
 use Rattle.hazard.proofs.Promise.{promise-refused, promise-written}
-use Rattle.cube.specs.Entry.{requiredIn, privilegedIn, CleanWord}
+use Rattle.cube.specs.Entry.{requiredIn, privilegedIn}
 use Rattle.cube.specs.PointSet.{inSet}
-use Rattle.cube.proofs.Word.{taken-clean}
-use Rattle.problem.specs.Store.{Held}
+use Rattle.problem.specs.Store.{StoredSets}
 use Rattle.problem.proofs.Checks.{refuse-yes, refuse-no}
 use Rattle.choice.specs.Network.{cubeIn}
 use Rattle.choice.proofs.Keeping.{entry-of}
@@ -45,32 +43,20 @@ module _ (n : ℕ) (off : ℕ → Bool) (vs : List sets.Privileged) (rs : List s
   pub answered-written : {before after : List ℕ} {k : ℕ} → blockingOf n off vs rs ≡ none → Selected n off vs rs before after k → Answered n off vs rs before after (written k)
   answered-written {k = k} e s = record { refused = λ p h. none-some (sym e ∙ h); network = λ h. (k, refl, s) }
 
--- The stored sets, handed on as parts from 0, are the problem's.
-module _ (n : ℕ) (f ts off : List ℕ) where
-  module _ {rs rs· : List ℕ} {r : ℕ} (hr : Held n (requiredIn n) rs· rs r (sets.required n f ts)) where
-    required-is : map (requiredIn n) (take (r - 0) rs) ≡ sets.required n f ts
-    required-is = rw (sub-zero r) (hr .is)
+-- The stored sets are the problem's.
+module _ {n : ℕ} {f ts off vs rs : List ℕ} {p r : ℕ} (s : StoredSets n f ts off vs rs p r) where
+  required-length : length (take r rs) ≡ length (sets.required n f ts)
+  required-length = sym (length-map (take r rs) (requiredIn n)) ∙ ap (λ (l : List sets.Required). length l) (s .required·)
 
-    required-length : length (take (r - 0) rs) ≡ length (sets.required n f ts)
-    required-length = sym (length-map (take (r - 0) rs) (requiredIn n)) ∙ ap (λ (l : List sets.Required). length l) required-is
+  pub required-fits : {b : ℕ} → length (sets.required n f ts) ≤ b → length (take r rs) ≤ b
+  required-fits l = rw required-length l
 
-    pub required-fits : {b : ℕ} → length (sets.required n f ts) ≤ b → length (take (r - 0) rs) ≤ b
-    required-fits l = rw required-length l
+  pub required-room : {b : ℕ} → length (sets.required n f ts) * n ≤ b → length (take r rs) * n ≤ b
+  required-room l = rw required-length l
 
-    pub required-room : {b : ℕ} → length (sets.required n f ts) * n ≤ b → length (take (r - 0) rs) * n ≤ b
-    required-room l = rw required-length l
-
-    pub required-clean : (k : ℕ) → CleanWord n (getD (take (r - 0) rs) k 0)
-    required-clean = rw (sub-zero r) (taken-clean n r rs (hr .clean))
-
-    pub answered-sets : {vs vs· before after : List ℕ} {p : ℕ} {a : Minimised} → ((x : ℕ) → inSet off x ≡ transition.off f x) → Held n (privilegedIn n) vs· vs p (sets.privileged n f ts)
-        → Answered n (inSet off) (map (privilegedIn n) (take (p - 0) vs)) (map (requiredIn n) (take (r - 0) rs)) before after a
-        → Answered n (transition.off f) (sets.privileged n f ts) (sets.required n f ts) before after a
-    answered-sets {vs} {before = before} {after} {p} {a} same hp h =
-        let d : map (privilegedIn n) (take (p - 0) vs) ≡ sets.privileged n f ts = rw (sub-zero p) (hp .is) in
-        subst (λ (o : ℕ → Bool). Answered n o (sets.privileged n f ts) (sets.required n f ts) before after a) (fun-ext same)
-        (subst (λ (l : List sets.Privileged). Answered n (inSet off) l (sets.required n f ts) before after a) d
-        (subst (λ (l : List sets.Required). Answered n (inSet off) (map (privilegedIn n) (take (p - 0) vs)) l before after a) required-is h))
+  pub answered-sets : {before after : List ℕ} {a : Minimised} → Answered n (inSet off) (map (privilegedIn n) (take p vs)) (map (requiredIn n) (take r rs)) before after a
+      → Answered n (transition.off f) (sets.privileged n f ts) (sets.required n f ts) before after a
+  answered-sets h = rw (s .off·, s .privileged·, s .required·) at h
 
 -- The promise, of each way to answer.
 module _ (n : ℕ) (f ts before : List ℕ) where

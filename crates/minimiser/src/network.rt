@@ -12,11 +12,9 @@ ghost use Rattle.expand.specs.Ready as expand;
 ghost use Rattle.minimiser.specs.Answer.{minimisedOf, Answered};
 use crate::select::select;
 use expand::blocking::first_blocking;
-use problem::off_set::off_set;
-use problem::privileged::privileged_into;
 use problem::refusal::Checked;
 use problem::refusal::Refusal;
-use problem::required::required_into;
+use problem::sets::sets_into;
 
 // How many products were written, or why there are none.
 pub enum Minimised {
@@ -56,9 +54,9 @@ fn cover_with(
     requires { ⌜ (length (now off) ≡ 16) × (64 ≤ length (now privileged)) × (2048 ≤ length (now required)) ⌝ }
     ensures { λ r. ⌜ Answered n (transition.off (now (table .entry))) (sets.privileged n (now (table .entry)) (now (transitions .entry))) (sets.required n (now (table .entry)) (now (transitions .entry))) (now (cover .entry)) (now (cover .exit)) (minimisedOf r) ⌝ }
 {
-    off_set(table, off);
-    let p = privileged_into(n, table, transitions, privileged);
-    let r = required_into(n, table, transitions, required);
+    let s = sets_into(n, table, transitions, off, privileged, required);
+    let p = s.privileged;
+    let r = s.required;
     cover_sets(n, off, &privileged[0..p], &required[0..r], cover)
 }
 

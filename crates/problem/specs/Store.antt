@@ -4,9 +4,10 @@ use mathlib.Core.List.{List, _++_, map}
 use Prim.Native.Nat.{ℕ, _+_, _<_}
 use lib.ListN.{length, getD, take}
 use Rattle.hazard.specs.Cube.{span}
-use Rattle.hazard.specs.Transition.{kind}
-use Rattle.hazard.specs.Sets.{Required, Privileged, labels, startPoint}
-use Rattle.cube.specs.Entry.{CleanWord}
+use Rattle.hazard.specs.Transition.{kind, off}
+use Rattle.hazard.specs.Sets.{Required, Privileged, labels, startPoint, required, privileged}
+use Rattle.cube.specs.Entry.{requiredIn, privilegedIn, CleanWord}
+use Rattle.cube.specs.PointSet.{inSet}
 
 -- From place k to place r the words now hold what was added; what stood before k is kept.
 pub record Stored {A : Type 0} (n : ℕ) (read : ℕ → A) (before after : List ℕ) (k r : ℕ) (added : List A) : Type 0 where
@@ -21,6 +22,13 @@ pub record Held {A : Type 0} (n : ℕ) (read : ℕ → A) (before after : List �
   pub size : r ≡ length l
   pub long : length after ≡ length before
   pub clean : (i : ℕ) → i < r → CleanWord n (getD after i 0)
+
+-- The words ws hold the problem's OFF-set, the first p words of vs its privileged cubes, the first r words of rs its required cubes.
+pub record StoredSets (n : ℕ) (f ts ws vs rs : List ℕ) (p r : ℕ) : Type 0 where
+  pub off· : inSet ws ≡ off f
+  pub privileged· : map (privilegedIn n) (take p vs) ≡ privileged n f ts
+  pub required· : map (requiredIn n) (take r rs) ≡ required n f ts
+  pub clean : (k : ℕ) → CleanWord n (getD (take r rs) k 0)
 
 -- The required cube of transition t between its start point s and a label x.
 abbrev pub requiredTo : ℕ → ℕ → ℕ → ℕ → Required

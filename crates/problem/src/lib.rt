@@ -8,4 +8,5 @@ pub mod privileged;
 pub mod refusal;
 pub mod required;
 pub mod scan;
+pub mod sets;
 pub mod transition;

@@ -10,9 +10,7 @@ ghost use Rattle.verifier.specs.Network.{Sound};
 use crate::fault::Verdict;
 use crate::fault::first_fault;
 use crate::network::read_network;
-use problem::off_set::off_set;
-use problem::privileged::privileged_into;
-use problem::required::required_into;
+use problem::sets::sets_into;
 
 // The problem's sets and the network's products are stored in the lent room, and the conditions are tried on them.
 fn judge_with(
@@ -29,9 +27,9 @@ fn judge_with(
     requires { ⌜ (length (now off) ≡ 16) × (64 ≤ length (now privileged)) × (2048 ≤ length (now required)) × (2048 ≤ length (now products)) ⌝ }
     ensures { λ r. ⌜ verdictOf r ≡ spec.fault n (now (table .entry)) (now (transitions .entry)) (spec.products n (now (network .entry))) ⌝ }
 {
-    off_set(table, off);
-    let p = privileged_into(n, table, transitions, privileged);
-    let r = required_into(n, table, transitions, required);
+    let s = sets_into(n, table, transitions, off, privileged, required);
+    let p = s.privileged;
+    let r = s.required;
     let m = read_network(n, network, products);
     first_fault(n, off, &privileged[0..p], &required[0..r], &products[0..m])
 }
