@@ -8,7 +8,8 @@
  * A product is n bytes, input 0 first: 0 inverted literal, 1 plain literal, 2 absent. A network is its products one after another.
  *
  * Each slice is a pointer and a length in elements. The pointer is not null, also where the length is 0, and points to so many
- * elements, which nothing else writes during the call. Nothing else is asked: any other arguments get an answer.
+ * elements, which nothing else writes during the call; cover overlaps no other slice. Nothing else is asked: any such arguments get an
+ * answer, and nothing outside the slices is read or written.
  */
 #ifndef QUIET_H
 #define QUIET_H

@@ -5,9 +5,11 @@ use Prim.Native.Nat.{ℕ, zero, suc, _≤_, _<_}
 use lib.ListN.{length, getD}
 use Rattle.problem_text.specs.Decimal.{decimal}
 
+-- The byte that ends a line.
 abbrev pub newline : ℕ
 newline = 10
 
+-- The byte between the numbers of a transition.
 abbrev pub space : ℕ
 space = 32
 
@@ -49,5 +51,6 @@ pub record Form (text : List ℕ) (n : ℕ) (f : List ℕ) (ps : List (ℕ × �
   pub values : Values f
   pub numbers : Numbers ps
 
+-- The text is of the form, whatever it says.
 abbrev pub Formed : List ℕ → Type 0
 Formed text = (n : ℕ) × (f : List ℕ) × (ps : List (ℕ × ℕ)) × Form text n f ps

@@ -1,7 +1,7 @@
 -- How a text is read, piece by piece. That this reads exactly the printed forms is a theorem of proofs/.
 use mathlib.Core.Path.{_≡_}
 use mathlib.Core.Bool.{Bool, cond, _&&_, _||_}
-use mathlib.Core.List.{List, [], _∷_, _++_}
+use mathlib.Core.List.{List, [], _∷_}
 use mathlib.Core.Option.{Option, none, some}
 use Prim.Native.Nat.{ℕ, _+_, _*_, _-_, _≤_}
 use lib.Dec.{eqb, leb, ltb}
@@ -65,6 +65,7 @@ abbrev pub tableLine : List ℕ → Option (List ℕ × List ℕ)
 tableLine [] = none
 tableLine (c ∷ cs) = cond (eqb c newline) (some ([], cs)) (andThen (valueOf c) (λ d. andThen (tableLine cs) (λ p. some (d ∷ p .0, p .1))))
 
+-- A longer number of the code's.
 abbrev pub longerOf : Longer → Option ℕ
 longerOf (longer.To y) = some y
 longerOf longer.Nothing = none
@@ -74,6 +75,7 @@ abbrev pub numberOf : List ℕ → Number → Option (ℕ × List ℕ)
 numberOf text (Found x next) = some (x, drop next text)
 numberOf text Nothing = none
 
+-- The place after a number of the code's.
 abbrev pub nextOf : Number → ℕ
 nextOf (Found x next) = next
 nextOf Nothing = 0
@@ -83,10 +85,12 @@ abbrev pub lineOf : List ℕ → Line → Option (ℕ × ℕ × List ℕ)
 lineOf text (line.Found a b next) = some (a, b, drop next text)
 lineOf text line.Nothing = none
 
+-- The place after a line of the code's.
 abbrev pub afterLine : Line → ℕ
 afterLine (line.Found a b next) = next
 afterLine line.Nothing = 0
 
+-- A value of the code's.
 abbrev pub cellOf : Cell → Option ℕ
 cellOf (cell.Value d) = some d
 cellOf cell.Nothing = none
@@ -96,6 +100,7 @@ abbrev pub tableOf : List ℕ → ℕ → List ℕ → Count → Option (List �
 tableOf text from table (count.Of k) = some (take k table, drop (from + k + 1) text)
 tableOf text from table count.Nothing = none
 
+-- The place after the table's line.
 abbrev pub afterTable : ℕ → Count → ℕ
 afterTable from (count.Of k) = from + k + 1
 afterTable from count.Nothing = 0
