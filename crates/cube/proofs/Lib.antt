@@ -6,3 +6,4 @@ pub mod Digits
 pub mod Scan
 pub mod Word
 pub mod Left
+pub mod WordMask

@@ -3,4 +3,4 @@ pub mod bytes;
 pub mod entry;
 pub mod mask;
 pub mod point;
-pub mod point_set;
+pub mod word_mask;

@@ -1,56 +1,71 @@
-use mathlib.Core.Path.{_≡_, refl, sym, _∙_}
-use Prim.Native.Nat.{_-_, _^_}
+use mathlib.Core.Path.{_≡_}
+use Prim.Native.Nat.{_-_, _^_, _≤_}
 use native.Mathlib.Omega.{arith}
 use lib.Pow.{pow-mono}
+use lib.Count.{trailing-le}
 use borrow.Author.Needs.{needs}
-use Rattle.cube.specs.Mask.{cubeOf}
-use Rattle.cube.specs.PointSet.{inSet}
-use Rattle.hazard.specs.Implicant.{lowestZero}
-use Rattle.cube.proofs.Scan.{Points, points-start, points-hit, points-miss, points-end}
+use Rattle.cube.proofs.WordMask.{Looked, looked-start, looked-more, looked-hit, looked-past, looked-end}
 use Rattle.expand.proofs.zero.lowest_zero.Statement.{statement}
 use Rattle.expand.proofs.zero.lowest_zero.Tie as tie
 
 abbrev Inv-loop : tie.InvT-loop
-Inv-loop n off c size x₀ x = (size ≡ 2 ^ n) × Points n (cubeOf n c) (inSet off) x (lowestZero n (inSet off) (cubeOf n c))
+Inv-loop n off c size m w₀ w = (size ≡ 2 ^ n) × (2 ^ n ≤ 1024) × (w ≤ 2 ^ n) × Looked off c w
 
 abbrev μ-loop : tie.MeasureT-loop
-μ-loop n off c size x₀ x = 2 ^ n - x
+μ-loop n off c size m w₀ w = 2 ^ n - w
 
 shl-size : tie.Need-shl-size Inv-loop μ-loop
 shl-size c = search needs
 
-cast-x : tie.Need-cast-x Inv-loop μ-loop
-cast-x c = search needs
+low-mask-requires : tie.Need-low-mask-requires Inv-loop μ-loop
+low-mask-requires c κs = search needs
 
 loop-holds : tie.Need-loop-holds Inv-loop μ-loop
 loop-holds c =
-    let s = c .before .before in
-    (omega (arith, pow-mono {j = 10} (s .pre .0 .few)), points-start (record { fits = s .pre .1; is = refl }) (inSet (s .args .off .now)))
+    let few = pow-mono {j = 10} (c .before .before .pre .0 .few) in
+    (omega (arith, few), omega (arith, few), omega arith, looked-start _ _)
 
-holds-requires : tie.Need-holds-requires Inv-loop μ-loop
-holds-requires c κs = search needs
+mul-loop : tie.Need-mul-loop Inv-loop μ-loop
+mul-loop c = search needs
 
-cast-t8 : tie.Need-cast-t8 Inv-loop μ-loop
-cast-t8 c = omega (arith, pow-mono {j = 10} (c .before .before .before .before .before .before .pre .0 .few))
+common-points-requires : tie.Need-common-points-requires Inv-loop μ-loop
+common-points-requires c κs = search needs
+
+mul-x : tie.Need-mul-x Inv-loop μ-loop
+mul-x c = search needs
+
+cast-x : tie.Need-cast-x Inv-loop μ-loop
+cast-x c = omega (arith, trailing-le 64 (c .before .common-points .result))
+
+add-x : tie.Need-add-x Inv-loop μ-loop
+add-x c = record { fits = omega (arith, c .before .before .before .loop .inv .1, trailing-le 64 (c .before .common-points .result)) }
 
 returns : tie.Need-returns Inv-loop μ-loop
-returns c = points-hit (c .before .before .before .loop .inv .1) (omega arith) (sym (c .before .holds .ensures) ∙ c .if1 .taken)
+returns c =
+    let k = c .before .before in
+    looked-past (k .before .before .before .before .before .pre .1) (k .before .before .loop .inv .3) (k .common-points .ensures) (c .before .if1 .taken) (omega arith)
 
-next-requires : tie.Need-next-requires Inv-loop μ-loop
-next-requires c κs =
-    let s = c .before .before .before .before .before .before in
-    (search needs, search needs, omega arith, c .before .before .before .loop .inv .1 .in· (omega arith))
+cast-t15 : tie.Need-cast-t15 Inv-loop μ-loop
+cast-t15 c = search needs
+
+returns-2 : tie.Need-returns-2 Inv-loop μ-loop
+returns-2 c =
+    let k = c .before .before in
+    looked-hit (k .before .before .before .before .before .pre .1) (k .before .before .loop .inv .3) (k .common-points .ensures) (c .before .if1 .taken) (omega arith)
+
+add-w : tie.Need-add-w Inv-loop μ-loop
+add-w c = search needs
 
 loop-less : tie.Need-loop-less Inv-loop μ-loop
 loop-less c = search needs
 
 loop-again : tie.Need-loop-again Inv-loop μ-loop
 loop-again c =
-    let l = c .before .before .before .before .loop in
-    (l .inv .0, points-miss (l .inv .1) (omega arith) (sym (c .before .before .holds .ensures) ∙ c .before .if1 .left) (c .next .ensures))
+    let i = c .before .before .before .loop .inv in
+    (i .0, i .1, omega arith, looked-more (i .3) (c .before .common-points .ensures) (c .if1 .left))
 
-returns-2 : tie.Need-returns-2 Inv-loop μ-loop
-returns-2 c = points-end (c .before .loop .inv .1) (omega arith)
+returns-3 : tie.Need-returns-3 Inv-loop μ-loop
+returns-3 c = looked-end (c .before .before .before .before .pre .1) (c .before .loop .inv .3) (omega arith)
 
 pub lowest-zero-spec : {M : Type 1} → statement M
 lowest-zero-spec =
@@ -59,12 +74,17 @@ lowest-zero-spec =
     Inv-loop
     μ-loop
     shl-size
-    cast-x
+    low-mask-requires
     loop-holds
-    holds-requires
-    cast-t8
+    mul-loop
+    common-points-requires
+    mul-x
+    cast-x
+    add-x
     returns
-    next-requires
+    cast-t15
+    returns-2
+    add-w
     loop-less
     loop-again
-    returns-2)
+    returns-3)
