@@ -27,7 +27,7 @@ fn grown_over(n: usize, off: &[u64], privileged: &[u64], c: Cube, d: Cube) -> Cu
     absorbed(n, off, privileged, c, d)
 }
 
-// So many required cubes after its own are tried with a product. Trying all would make the time grow with their square.
+// So many required cubes are tried with a product, its own and the next ones. Trying all would make the time grow with their square.
 const REACH: usize = 32;
 
 // Where the trying ends.
