@@ -1,4 +1,3 @@
-pub mod Sweep
 pub mod Firsts
 pub mod Choosing
 pub mod Keeping

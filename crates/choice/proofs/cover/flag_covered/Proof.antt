@@ -6,7 +6,7 @@ use borrow.Author.Needs.{needs}
 use mathlib.Core.Bool.{Bool, false, _||_}
 use Rattle.hazard.specs.Cube.{inside}
 use Rattle.choice.specs.Network.{cubeIn}
-use Rattle.choice.proofs.Sweep.{Sweep, sweep-start, sweep-step}
+use Rattle.cube.proofs.Sweep.{Sweep, sweep-start, sweep-step}
 use Rattle.choice.proofs.cover.flag_covered.Statement.{statement}
 use Rattle.choice.proofs.cover.flag_covered.Tie as tie
 

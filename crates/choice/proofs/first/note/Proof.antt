@@ -7,7 +7,7 @@ use borrow.Author.Needs.{needs}
 use Rattle.hazard.specs.Cube.{inside}
 use Rattle.choice.specs.Network.{cubeIn}
 use Rattle.choice.specs.First.{noteOf}
-use Rattle.choice.proofs.Sweep.{Sweep, sweep-start, sweep-step}
+use Rattle.cube.proofs.Sweep.{Sweep, sweep-start, sweep-step}
 use Rattle.choice.proofs.first.note.Statement.{statement}
 use Rattle.choice.proofs.first.note.Tie as tie
 

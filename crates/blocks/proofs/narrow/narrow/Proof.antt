@@ -1,0 +1,79 @@
+use Prim.Native.Nat.{ℕ, _+_, _*_, _≤_}
+use mathlib.Core.Path.{_≡_, ap}
+use Prim.Native.Nat.{_-_}
+use native.Mathlib.Omega.{arith}
+use Rattle.blocks.proofs.Narrowing.{Narrowing, narrowing-start, narrowing-step, at-few}
+use borrow.Author.Needs.{needs}
+use Rattle.blocks.proofs.narrow.narrow.Statement.{statement}
+use Rattle.blocks.proofs.narrow.narrow.Tie as tie
+
+abbrev Inv-loop : tie.InvT-loop
+Inv-loop n columns c rows₀ i₀ rows i = (i ≤ n) × Narrowing columns c rows₀ rows i
+
+abbrev μ-loop : tie.MeasureT-loop
+μ-loop n columns c rows₀ i₀ rows i = n - i
+
+loop-holds : tie.Need-loop-holds Inv-loop μ-loop
+loop-holds c = (omega arith, narrowing-start _ _ _)
+
+mul-at : tie.Need-mul-at Inv-loop μ-loop
+mul-at c = search needs
+
+digit-of-requires : tie.Need-digit-of-requires Inv-loop μ-loop
+digit-of-requires c κs = search needs
+
+cast-at : tie.Need-cast-at Inv-loop μ-loop
+cast-at c = search needs
+
+add-at : tie.Need-add-at Inv-loop μ-loop
+add-at c = search needs
+
+mul-at-2 : tie.Need-mul-at-2 Inv-loop μ-loop
+mul-at-2 c = search needs
+
+narrow-by-requires : tie.Need-narrow-by-requires Inv-loop μ-loop
+narrow-by-requires c κs =
+    let s = c .before .before .before .before .before .before in
+    let l = c .before .before .before .loop in
+    omega (arith, s .pre .0, s .pre .1, s .pre .2, l .inv .1 .long, at-few (s .args .c) (l .i), c .before .digit-of .ensures)
+
+add-i : tie.Need-add-i Inv-loop μ-loop
+add-i c = search needs
+
+loop-less : tie.Need-loop-less Inv-loop μ-loop
+loop-less c = search needs
+
+loop-again : tie.Need-loop-again Inv-loop μ-loop
+loop-again c =
+    let l = c .before .before .before .before .before .before .loop in
+    let d = c .before .before .before .before .digit-of in
+    (omega arith, narrowing-step (l .inv .1) (ap (λ (y : ℕ). 32 * (3 * l .i + y)) (d .ensures)) (c .before .before .narrow-by .kept .1 .1 .0) (c .before .before .narrow-by .ensures))
+
+same-length : tie.Need-same-length Inv-loop μ-loop
+same-length c = search needs
+
+returns : tie.Need-returns Inv-loop μ-loop
+returns c =
+    let s = c .before .before .before .before in
+    let l = c .before .loop in
+    let e : l .i ≡ s .args .n = omega arith in
+    rw e at (l .inv .1 .is)
+
+pub narrow-spec : {M : Type 1} → statement M
+narrow-spec =
+    tie.close
+    (tie.spec
+    Inv-loop
+    μ-loop
+    loop-holds
+    mul-at
+    digit-of-requires
+    cast-at
+    add-at
+    mul-at-2
+    narrow-by-requires
+    add-i
+    loop-less
+    loop-again
+    same-length
+    returns)

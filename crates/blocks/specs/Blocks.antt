@@ -1,0 +1,22 @@
+-- Rows in blocks of 64: for each input and digit a run of 32 words, word b of it for rows 64 b to 64 b + 63.
+use mathlib.Core.Bool.{Bool, true, _&&_}
+use mathlib.Core.List.{List}
+use Prim.Native.Nat.{ℕ, zero, suc, _+_, _*_, _/_, _%_}
+use lib.Dec.{eqb}
+use lib.ListN.{getD}
+use Rattle.hazard.specs.Cube.{bit}
+use Rattle.cube.specs.Mask.{digit}
+use Rattle.cube.specs.declared.mask.Cube.{Cube}
+
+-- The digit of input i.
+abbrev pub digitAt : Cube → ℕ → ℕ
+digitAt c i = digit (bit (c .care) i) (bit (c .value) i)
+
+-- Row k has its bit in the words of input i and digit d.
+abbrev pub allowed : List ℕ → ℕ → ℕ → ℕ → Bool
+allowed columns k i d = eqb (bit (getD columns (32 * (3 * i + d) + k / 64) 0) (k % 64)) 1
+
+-- It has for each input below n, with the cube's digit there.
+abbrev pub allowedTo : List ℕ → ℕ → Cube → ℕ → Bool
+allowedTo columns k c zero = true
+allowedTo columns k c (suc i) = allowedTo columns k c i && allowed columns k i (digitAt c i)
