@@ -1,2 +1,3 @@
-// Sets of rows as words of 64 bits, and rows tested against a cube block by block.
+// Sets of up to 2,048 rows as words of 64 bits, and rows tested against a cube block by block.
 pub mod narrow;
+pub mod split;
