@@ -1,2 +1,3 @@
 pub mod Narrowing
 pub mod Splitting
+pub mod Members
