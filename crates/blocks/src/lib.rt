@@ -2,3 +2,4 @@
 pub mod member;
 pub mod narrow;
 pub mod split;
+pub mod whole;
