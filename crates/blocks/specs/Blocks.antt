@@ -1,11 +1,13 @@
 -- Rows in blocks of 64: for each input and digit a run of 32 words, word b of it for rows 64 b to 64 b + 63.
+use mathlib.Core.Path.{_≡_}
 use mathlib.Core.Bool.{Bool, true, _&&_}
 use mathlib.Core.List.{List}
-use Prim.Native.Nat.{ℕ, zero, suc, _+_, _*_, _/_, _%_}
+use Prim.Native.Nat.{ℕ, zero, suc, _+_, _*_, _/_, _%_, _<_}
 use lib.Dec.{eqb}
-use lib.ListN.{getD}
+use lib.ListN.{length, getD}
+use Rattle.hazard.specs.Cube as digits
 use Rattle.hazard.specs.Cube.{bit}
-use Rattle.cube.specs.Mask.{digit}
+use Rattle.cube.specs.Mask.{digit, cubeOf}
 use Rattle.cube.specs.declared.mask.Cube.{Cube}
 
 -- The digit of input i.
@@ -20,3 +22,8 @@ allowed columns k i d = eqb (bit (getD columns (32 * (3 * i + d) + k / 64) 0) (k
 abbrev pub allowedTo : List ℕ → ℕ → Cube → ℕ → Bool
 allowedTo columns k c zero = true
 allowedTo columns k c (suc i) = allowedTo columns k c i && allowed columns k i (digitAt c i)
+
+-- The columns were made from the rows: a row has its bits for all digits of a cube exactly where it is related to the cube.
+pub record Blocks (related : ℕ → digits.Cube → Bool) (n : ℕ) (rows columns : List ℕ) : Type 0 where
+  pub long : length columns ≡ 960
+  pub is : (k : ℕ) → k < length rows → (c : Cube) → allowedTo columns k c n ≡ related (getD rows k 0) (cubeOf n c)
