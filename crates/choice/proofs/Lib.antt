@@ -1,3 +1,5 @@
 pub mod Firsts
+pub mod Noting
+pub mod Covering
 pub mod Choosing
 pub mod Keeping

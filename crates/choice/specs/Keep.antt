@@ -1,6 +1,6 @@
 -- What the choice is handed, and what it leaves.
 use mathlib.Core.Path.{_≡_}
-use mathlib.Core.Bool.{Bool, false, not, _&&_}
+use mathlib.Core.Bool.{Bool, _&&_}
 use mathlib.Core.List.{List, [], map, List·Memᴰ}
 use Prim.Native.Nat.{ℕ, _≤_, _<_}
 use lib.Dec.{T, eqb}
@@ -8,12 +8,13 @@ use lib.ListN.{length, getD, drop}
 use Rattle.hazard.specs.Sets.{Required}
 use Rattle.hazard.specs.Cover.{covered, Irredundant}
 use Rattle.cube.specs.Entry.{requiredIn}
+use Rattle.cube.specs.PointSet.{inSet}
 use Rattle.choice.specs.Network.{cubeIn, networkIn}
 use Rattle.choice.specs.First.{firstIn, placeOf}
 
--- Required cube i has product j for its first, and its flag is not set.
-abbrev pub neededIn : List ℕ → List Bool → ℕ → ℕ → Bool
-neededIn firsts flags j i = eqb (getD firsts i 0) j && not (getD flags i false)
+-- Required cube i has product j for its first, and is in the set.
+abbrev pub neededIn : List ℕ → List ℕ → ℕ → ℕ → Bool
+neededIn firsts unmet j i = eqb (getD firsts i 0) j && inSet unmet i
 
 -- For each required cube its first product is noted; every one has one, and there are no more products than required cubes.
 pub record Noted (n : ℕ) (required firsts products : List ℕ) : Type 0 where

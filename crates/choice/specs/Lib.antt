@@ -1,3 +1,4 @@
 pub mod Network
+pub mod Rows
 pub mod First
 pub mod Keep

@@ -1,38 +1,38 @@
 // For each required cube the first product that contains it, by its place among the products; NONE where none does.
 ghost use mathlib.Core.Path.{_≡_};
-ghost use Prim.Native.Nat.{ℕ, _≤_, _<_};
+ghost use mathlib.Core.Bool.{cond};
+ghost use Prim.Native.Nat.{ℕ, _*_, _≤_, _<_};
+ghost use lib.Dec.{T};
 ghost use lib.ListN.{length, getD};
-ghost use Rattle.hazard.specs.Cube.{inside};
-ghost use Rattle.choice.specs.Network.{cubeIn, Small};
-ghost use Rattle.choice.specs.First.{noteOf};
-use crate::cover::word_inside;
+ghost use Rattle.cube.specs.PointSet.{inSet};
+ghost use Rattle.choice.specs.First.{inWord};
+use blocks::member::without_lowest;
 
 // No product: above every place.
 pub const NONE: u16 = 65535;
 
-// What is noted of a required cube, once product j has come: j, if the product contains it and none before does.
-fn noted(first: u16, here: bool, j: u16) -> u16
-    ensures { λ r. ⌜ r ≡ noteOf first here j ⌝ }
+// Product j is noted for the rows of word b of a set.
+fn note_word(firsts: &mut [u16], b: usize, word: u64, j: u16)
+    requires { ⌜ b < 32 ⌝ }
+    requires { ⌜ ((i : ℕ) → T (inWord b word i) → i < length (now firsts)) ⌝ }
+    ensures { λ _. ⌜ ((i : ℕ) → getD (now (firsts .exit)) i 0 ≡ cond (inWord b word i) j (getD (now (firsts .entry)) i 0)) ⌝ }
 {
-    if first != NONE {
-        return first;
+    let mut left = word;
+    while left != 0 {
+        firsts[64 * b + u64::trailing_zeros(left) as usize] = j;
+        left = without_lowest(left);
     }
-    if here {
-        return j;
-    }
-    first
 }
 
-// Product j has come.
-pub fn note(n: usize, required: &[u64], firsts: &mut [u16], p: u64, j: u16)
-    requires { ⌜ (length (now required) ≤ length (now firsts)) × Small n p ⌝ }
-    ensures { λ _. ⌜ ((i : ℕ) → i < length (now (required .entry))
-        → getD (now (firsts .exit)) i 0 ≡ noteOf (getD (now (firsts .entry)) i 0) (inside (cubeIn n (getD (now (required .entry)) i 0)) (cubeIn n p)) j) ⌝ }
+// Product j is noted for the rows of a set.
+pub fn note(firsts: &mut [u16], set: &[u64], j: u16)
+    requires { ⌜ length (now set) ≤ 32 ⌝ }
+    requires { ⌜ ((i : ℕ) → T (inSet (now set) i) → i < length (now firsts)) ⌝ }
+    ensures { λ _. ⌜ ((i : ℕ) → getD (now (firsts .exit)) i 0 ≡ cond (inSet (now (set .entry)) i) j (getD (now (firsts .entry)) i 0)) ⌝ }
 {
-    let mut i = 0;
-    while i < required.len() {
-        let here = word_inside(n, required[i], p);
-        firsts[i] = noted(firsts[i], here, j);
-        i += 1;
+    let mut b = 0;
+    while b < set.len() {
+        note_word(firsts, b, set[b], j);
+        b += 1;
     }
 }

@@ -1,46 +1,44 @@
-use mathlib.Core.Path.{sym, _∙_}
-use Prim.Native.Nat.{_-_}
-use lib.ListN.{length}
+use Rattle.choice.proofs.Covering.{covers-is}
+use Rattle.choice.specs.Network.{cubeIn}
+use Rattle.cube.specs.Mask.{cubeOf}
 use native.Mathlib.Omega.{arith}
+use mathlib.Core.Path.{_≡_, _∙_}
 use borrow.Author.Needs.{needs}
-use Rattle.hazard.specs.Cover.{covered}
-use Rattle.cube.proofs.Left.{Left, left-start, left-end, covered-hit, covered-miss}
-use Rattle.choice.specs.Network.{cubeIn, networkIn}
 use Rattle.choice.proofs.cover.covers.Statement.{statement}
 use Rattle.choice.proofs.cover.covers.Tie as tie
 
-abbrev Inv-loop : tie.InvT-loop
-Inv-loop n products r j₀ j = Left (λ l. covered (networkIn n l) (cubeIn n r)) products j
+whole-into-requires : tie.Need-whole-into-requires
+whole-into-requires c κs = search needs
 
-abbrev μ-loop : tie.MeasureT-loop
-μ-loop n products r j₀ j = length products - j
+cube-in-requires : tie.Need-cube-in-requires
+cube-in-requires c κs = search needs
 
-loop-holds : tie.Need-loop-holds Inv-loop μ-loop
-loop-holds c = left-start
+narrow-requires : tie.Need-narrow-requires
+narrow-requires c κs = search needs
 
-mul-word-inside : tie.Need-mul-word-inside Inv-loop μ-loop
-mul-word-inside c = search needs
+has-row-requires : tie.Need-has-row-requires
+has-row-requires c κs = search needs
 
-shared-slice-read-word-inside : tie.Need-shared-slice-read-word-inside Inv-loop μ-loop
-shared-slice-read-word-inside c = search needs
+same-length : tie.Need-same-length
+same-length c = search needs
 
-word-inside-requires : tie.Need-word-inside-requires Inv-loop μ-loop
-word-inside-requires c κs = c .before .before .before .before .pre _
-
-returns : tie.Need-returns Inv-loop μ-loop
-returns c = covered-hit (c .before .before .before .before .loop .inv) (omega arith) (sym (c .before .word-inside .ensures) ∙ c .if1 .taken)
-
-add-j : tie.Need-add-j Inv-loop μ-loop
-add-j c = search needs
-
-loop-less : tie.Need-loop-less Inv-loop μ-loop
-loop-less c = search needs
-
-loop-again : tie.Need-loop-again Inv-loop μ-loop
-loop-again c = covered-miss (c .before .before .before .before .loop .inv) (omega arith) (sym (c .before .word-inside .ensures) ∙ c .if1 .left)
-
-returns-2 : tie.Need-returns-2 Inv-loop μ-loop
-returns-2 c = left-end (c .before .loop .inv) (omega arith)
+returns : tie.Need-returns
+returns c =
+    let s = c .before .before .before .before .before .before .before .before .before .before .before .before .before .before in
+    let w = c .before .before .before .before .before .before .before .before .before .whole-into in
+    let k = c .before .before .before .before .before .before .cube-in in
+    let m = c .before .before .before .before .narrow in
+    let e : cubeOf (s .args .n) (k .result) ≡ cubeIn (s .args .n) (s .args .r) = rw (k .ensures .0, k .ensures .1) in
+    c .has-row .ensures ∙ covers-is (s .args .n) (s .args .products .now) (s .args .columns .now) (w .last .1 .0) (m .last .1 .1 .1 .0) (k .result) (s .args .r) (s .pre .1) e (m .kept .1 .1 .1 .0)
+    (omega (arith, s .pre .0 .2, w .kept .1 .0)) (λ x l. w .ensures x (omega (arith, w .kept .1 .0))) (m .ensures) (λ b. c .before .before .slice-known3 .given b .fits)
 
 pub covers-spec : {M : Type 1} → statement M
-covers-spec = tie.close (tie.spec Inv-loop μ-loop loop-holds mul-word-inside shared-slice-read-word-inside word-inside-requires returns add-j loop-less loop-again returns-2)
+covers-spec =
+    tie.close
+    (tie.spec
+    whole-into-requires
+    cube-in-requires
+    narrow-requires
+    has-row-requires
+    same-length
+    returns)

@@ -1,66 +1,46 @@
-use mathlib.Core.Path.{ap, _∙_}
-use mathlib.Core.Bool.{Bool}
-use Prim.Native.Nat.{_-_, _≤_}
+use Prim.Native.Nat.{_-_}
 use lib.ListN.{length, getD}
 use native.Mathlib.Omega.{arith}
+use Rattle.choice.proofs.Noting.{Marking, marking-start, marking-word, marking-step, marking-end}
 use borrow.Author.Needs.{needs}
-use Rattle.hazard.specs.Cube.{inside}
-use Rattle.choice.specs.Network.{cubeIn}
-use Rattle.choice.specs.First.{noteOf}
-use Rattle.cube.proofs.Sweep.{Sweep, sweep-start, sweep-step}
 use Rattle.choice.proofs.first.note.Statement.{statement}
 use Rattle.choice.proofs.first.note.Tie as tie
 
 abbrev Inv-loop : tie.InvT-loop
-Inv-loop n required firsts₀ p j i₀ firsts i = (i ≤ length required) × Sweep (λ k v. noteOf v (inside (cubeIn n (getD required k 0)) (cubeIn n p)) j) 0 firsts₀ firsts i
+Inv-loop firsts₀ set j b₀ firsts b = Marking set j firsts₀ firsts b
 
 abbrev μ-loop : tie.MeasureT-loop
-μ-loop n required firsts₀ p j i₀ firsts i = length required - i
+μ-loop firsts₀ set j b₀ firsts b = length set - b
 
 loop-holds : tie.Need-loop-holds Inv-loop μ-loop
-loop-holds c = (omega arith, sweep-start _ _ _)
+loop-holds c = marking-start _ _ _
 
-mul-word-inside : tie.Need-mul-word-inside Inv-loop μ-loop
-mul-word-inside c = search needs
+mul-note-word : tie.Need-mul-note-word Inv-loop μ-loop
+mul-note-word c = search needs
 
-shared-slice-read-word-inside : tie.Need-shared-slice-read-word-inside Inv-loop μ-loop
-shared-slice-read-word-inside c = search needs
+shared-slice-read-note-word : tie.Need-shared-slice-read-note-word Inv-loop μ-loop
+shared-slice-read-note-word c = search needs
 
-word-inside-requires : tie.Need-word-inside-requires Inv-loop μ-loop
-word-inside-requires c κs = search needs
+note-word-requires : tie.Need-note-word-requires Inv-loop μ-loop
+note-word-requires c κs =
+    let s = c .before .before .before .before .before .before in
+    let l = c .before .before .before .loop in
+    (omega (arith, s .pre .0), λ i t. rw (l .inv .long) (s .pre .1 i (marking-word (l .inv) i t)))
 
-mul-noted : tie.Need-mul-noted Inv-loop μ-loop
-mul-noted c = search needs
-
-slice-read-noted : tie.Need-slice-read-noted Inv-loop μ-loop
-slice-read-noted c = omega (arith, c .before .before .before .before .loop .inv .1 .long)
-
-noted-requires : tie.Need-noted-requires Inv-loop μ-loop
-noted-requires c κs = search needs
-
-mul-firsts : tie.Need-mul-firsts Inv-loop μ-loop
-mul-firsts c = search needs
-
-slice-write-firsts : tie.Need-slice-write-firsts Inv-loop μ-loop
-slice-write-firsts c = omega (arith, c .before .before .before .before .before .loop .inv .1 .long)
-
-add-i : tie.Need-add-i Inv-loop μ-loop
-add-i c = search needs
+add-b : tie.Need-add-b Inv-loop μ-loop
+add-b c = search needs
 
 loop-less : tie.Need-loop-less Inv-loop μ-loop
 loop-less c = search needs
 
 loop-again : tie.Need-loop-again Inv-loop μ-loop
-loop-again c =
-    let l = c .before .before .before .before .before .loop in
-    let a = c .before .before .before .before .before .before .before .before .args in
-    (omega arith, sweep-step (l .inv .1) (omega (arith, l .inv .1 .long)) (c .noted .ensures ∙ ap (λ (b : Bool). noteOf (getD (l .firsts) (l .i) 0) b (a .j)) (c .before .before .word-inside .ensures)))
+loop-again c = marking-step (c .before .before .before .before .before .before .loop .inv) (omega arith) (c .before .before .note-word .last .0) (c .before .before .note-word .kept .0) (c .before .before .note-word .ensures)
 
 same-length : tie.Need-same-length Inv-loop μ-loop
-same-length c = c .before .loop .inv .1 .long
+same-length c = c .before .loop .inv .long
 
 returns : tie.Need-returns Inv-loop μ-loop
-returns c i h = c .before .loop .inv .1 .done i (omega arith)
+returns c = marking-end (c .before .loop .inv) (omega arith)
 
 pub note-spec : {M : Type 1} → statement M
 note-spec =
@@ -69,15 +49,10 @@ note-spec =
     Inv-loop
     μ-loop
     loop-holds
-    mul-word-inside
-    shared-slice-read-word-inside
-    word-inside-requires
-    mul-noted
-    slice-read-noted
-    noted-requires
-    mul-firsts
-    slice-write-firsts
-    add-i
+    mul-note-word
+    shared-slice-read-note-word
+    note-word-requires
+    add-b
     loop-less
     loop-again
     same-length

@@ -1,86 +1,106 @@
-use mathlib.Core.Path.{_≡_, sym, _∙_}
-use Prim.Native.Nat.{_-_}
-use native.Mathlib.Omega.{arith}
-use lib.ListN.{length}
-use borrow.Author.Needs.{needs}
-use Rattle.choice.proofs.Keeping.{Keeping, keeping-start, keeping-turn, keeping-skip, keeping-keep, keeping-end}
 use Rattle.choice.proofs.keep.kept_from.Statement.{statement}
 use Rattle.choice.proofs.keep.kept_from.Tie as tie
+use Rattle.choice.proofs.keep.kept_from.Reads as reads
+use Rattle.choice.proofs.keep.kept_from.Lts as lts
+use Rattle.blocks.proofs.split.split.Reads as split-reads
+use Rattle.blocks.proofs.whole.whole_into.Reads as whole-into-reads
+use Rattle.choice.proofs.keep.needed.Reads as needed-reads
+use Rattle.cube.proofs.entry.cube_in.Reads as cube-in-reads
+use Rattle.cube.proofs.entry.transition_in.Reads as transition-in-reads
 
 abbrev Inv-loop : tie.InvT-loop
-Inv-loop n required firsts products₀ flags₀ kept₀ j₀ products flags kept j = Keeping n required products₀ products flags kept j
+Inv-loop n required columns firsts products₀ unmet₀ taken₀ kept₀ j₀ products unmet taken kept j = ?
 
 abbrev μ-loop : tie.MeasureT-loop
-μ-loop n required firsts products₀ flags₀ kept₀ j₀ products flags kept j = j
+μ-loop n required columns firsts products₀ unmet₀ taken₀ kept₀ j₀ products unmet taken kept j = ?
 
+-- src/keep.rt:69:5
+whole-into-requires : tie.Need-whole-into-requires Inv-loop μ-loop
+whole-into-requires c κs = ?
+
+-- src/keep.rt:72:5
 loop-holds : tie.Need-loop-holds Inv-loop μ-loop
-loop-holds c = keeping-start (c .before .before .before .pre .0)
+loop-holds c = ?
 
+-- src/keep.rt:73:9
 sub-j : tie.Need-sub-j Inv-loop μ-loop
-sub-j c = search needs
+sub-j c = ?
 
-slice-aggregate-needed : tie.Need-slice-aggregate-needed Inv-loop μ-loop
-slice-aggregate-needed c = search needs
-
-cast-needed : tie.Need-cast-needed Inv-loop μ-loop
-cast-needed c = search needs
-
-needed-requires : tie.Need-needed-requires Inv-loop μ-loop
-needed-requires c κs =
-    let s = c .before .before .before .before .before .before in
-    omega (arith, s .pre .0 .whole, s .pre .0 .many, c .before .before .loop .inv .wide)
-
+-- src/keep.rt:74:17
 mul-p : tie.Need-mul-p Inv-loop μ-loop
-mul-p c = search needs
+mul-p c = ?
 
+-- src/keep.rt:74:17
 slice-read-p : tie.Need-slice-read-p Inv-loop μ-loop
-slice-read-p c = search needs
+slice-read-p c = ?
 
+-- src/keep.rt:75:34
+cast-needed : tie.Need-cast-needed Inv-loop μ-loop
+cast-needed c = ?
+
+-- src/keep.rt:75:44
+transition-in-requires : tie.Need-transition-in-requires Inv-loop μ-loop
+transition-in-requires c κs = ?
+
+-- src/keep.rt:75:44
+cast-needed-2 : tie.Need-cast-needed-2 Inv-loop μ-loop
+cast-needed-2 c = ?
+
+-- src/keep.rt:75:12
+needed-requires : tie.Need-needed-requires Inv-loop μ-loop
+needed-requires c κs = ?
+
+-- src/keep.rt:76:13
 sub-kept : tie.Need-sub-kept Inv-loop μ-loop
-sub-kept c = search needs
+sub-kept c = ?
 
+-- src/keep.rt:77:13
 mul-products : tie.Need-mul-products Inv-loop μ-loop
-mul-products c = search needs
+mul-products c = ?
 
+-- src/keep.rt:77:13
 slice-write-products : tie.Need-slice-write-products Inv-loop μ-loop
-slice-write-products c = search needs
+slice-write-products c = ?
 
-slice-aggregate-flag-covered : tie.Need-slice-aggregate-flag-covered Inv-loop μ-loop
-slice-aggregate-flag-covered c = search needs
+-- src/keep.rt:78:31
+cube-in-requires : tie.Need-cube-in-requires Inv-loop μ-loop
+cube-in-requires c κs = ?
 
-flag-covered-requires : tie.Need-flag-covered-requires Inv-loop μ-loop
-flag-covered-requires c κs =
-    let s = c .before .before .before .before .before .before .before .before .before .before in
-    let l = c .before .before .before .before .before .before .loop in
-    (omega (arith, s .pre .0 .many, l .inv .wide), rw (l .inv .below (l .j - 1) (omega arith)) (s .pre .1 (l .j - 1)))
+-- src/keep.rt:78:13
+split-requires : tie.Need-split-requires Inv-loop μ-loop
+split-requires c κs = ?
 
+-- src/keep.rt:72:5
 loop-less : tie.Need-loop-less Inv-loop μ-loop
-loop-less c = search needs
+loop-less c = ?
 
+-- src/keep.rt:72:5
 loop-again : tie.Need-loop-again Inv-loop μ-loop
-loop-again c =
-    let s = c .before .before .before .before .before .before .before .before .before .before .before .before in
-    let l = c .before .before .before .before .before .before .before .before .loop in
-    keeping-keep (s .pre .0) (keeping-turn (s .pre .0) (l .inv) (omega arith)) (sym (c .before .before .before .before .before .needed .ensures) ∙ c .before .before .before .before .if1 .taken) (c .before .flag-covered .ensures) (c .before .flag-covered .kept .1 .1 .0)
+loop-again c = ?
 
+-- src/keep.rt:72:5
 loop-less-2 : tie.Need-loop-less-2 Inv-loop μ-loop
-loop-less-2 c = search needs
+loop-less-2 c = ?
 
+-- src/keep.rt:72:5
 loop-again-2 : tie.Need-loop-again-2 Inv-loop μ-loop
-loop-again-2 c =
-    let s = c .before .before .before .before .before .before .before .before in
-    let l = c .before .before .before .before .loop in
-    keeping-skip (s .pre .0) (keeping-turn (s .pre .0) (l .inv) (omega arith)) (sym (c .before .needed .ensures) ∙ c .if1 .left)
+loop-again-2 c = ?
 
+-- src/keep.rt:56:1
 same-length : tie.Need-same-length Inv-loop μ-loop
-same-length c = c .before .loop .inv .long
+same-length c = ?
 
+-- src/keep.rt:56:1
+same-length-2 : tie.Need-same-length-2 Inv-loop μ-loop
+same-length-2 c = ?
+
+-- src/keep.rt:56:1
+same-length-3 : tie.Need-same-length-3 Inv-loop μ-loop
+same-length-3 c = ?
+
+-- src/keep.rt:56:1
 returns : tie.Need-returns Inv-loop μ-loop
-returns c =
-    let s = c .before .before .before .before .before in
-    let l = c .before .loop in
-    let e : l .j ≡ 0 = omega arith in
-    keeping-end (s .pre .0) (rw e at (l .inv))
+returns c = ?
 
 pub kept-from-spec : {M : Type 1} → statement M
 kept-from-spec =
@@ -88,21 +108,25 @@ kept-from-spec =
     (tie.spec
     Inv-loop
     μ-loop
+    whole-into-requires
     loop-holds
     sub-j
-    slice-aggregate-needed
-    cast-needed
-    needed-requires
     mul-p
     slice-read-p
+    cast-needed
+    transition-in-requires
+    cast-needed-2
+    needed-requires
     sub-kept
     mul-products
     slice-write-products
-    slice-aggregate-flag-covered
-    flag-covered-requires
+    cube-in-requires
+    split-requires
     loop-less
     loop-again
     loop-less-2
     loop-again-2
     same-length
+    same-length-2
+    same-length-3
     returns)

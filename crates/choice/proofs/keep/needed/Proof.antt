@@ -1,51 +1,26 @@
-use mathlib.Core.Path.{ap, sym, _∙_}
-use Prim.Native.Nat.{_-_}
-use native.Mathlib.Omega.{arith}
-use lib.ListN.{length}
 use borrow.Author.Needs.{needs}
-use Rattle.hazard.specs.Search.{found, first}
-use Rattle.cube.proofs.Scan.{Scan, scan-start, scan-hit, scan-miss, scan-end}
-use Rattle.choice.specs.Keep.{neededIn}
 use Rattle.choice.proofs.keep.needed.Statement.{statement}
 use Rattle.choice.proofs.keep.needed.Tie as tie
+use Rattle.choice.proofs.keep.needed.Reads as reads
+use Rattle.choice.proofs.keep.needed.Lts as lts
+use Rattle.choice.proofs.keep.needed_at.Reads as needed-at-reads
+use Rattle.choice.proofs.keep.needed_by_any.Reads as needed-by-any-reads
 
-abbrev Inv-loop : tie.InvT-loop
-Inv-loop firsts flags j i₀ i = Scan (neededIn firsts flags j) (length firsts) i (first (neededIn firsts flags j) 0 (length firsts))
-
-abbrev μ-loop : tie.MeasureT-loop
-μ-loop firsts flags j i₀ i = length firsts - i
-
-loop-holds : tie.Need-loop-holds Inv-loop μ-loop
-loop-holds c = scan-start _ _
-
-needed-at-requires : tie.Need-needed-at-requires Inv-loop μ-loop
+-- src/keep.rt:46:12
+needed-at-requires : tie.Need-needed-at-requires
 needed-at-requires c κs = search needs
 
-returns : tie.Need-returns Inv-loop μ-loop
-returns c = ap found (scan-hit (c .before .before .before .loop .inv) (omega arith) (sym (c .before .needed-at .ensures) ∙ c .if1 .taken))
+-- src/keep.rt:47:13
+returns : tie.Need-returns
+returns c = ?
 
-add-i : tie.Need-add-i Inv-loop μ-loop
-add-i c = search needs
+-- src/keep.rt:50:5
+needed-by-any-requires : tie.Need-needed-by-any-requires
+needed-by-any-requires c κs = search needs
 
-loop-less : tie.Need-loop-less Inv-loop μ-loop
-loop-less c = search needs
-
-loop-again : tie.Need-loop-again Inv-loop μ-loop
-loop-again c = scan-miss (c .before .before .before .loop .inv) (omega arith) (sym (c .before .needed-at .ensures) ∙ c .if1 .left)
-
-returns-2 : tie.Need-returns-2 Inv-loop μ-loop
-returns-2 c = ap found (scan-end (c .before .loop .inv) (omega arith))
+-- src/keep.rt:41:1
+returns-2 : tie.Need-returns-2
+returns-2 c = search needs
 
 pub needed-spec : {M : Type 1} → statement M
-needed-spec =
-    tie.close
-    (tie.spec
-    Inv-loop
-    μ-loop
-    loop-holds
-    needed-at-requires
-    returns
-    add-i
-    loop-less
-    loop-again
-    returns-2)
+needed-spec = tie.close (tie.spec needed-at-requires returns needed-by-any-requires returns-2)
