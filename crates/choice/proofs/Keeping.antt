@@ -20,6 +20,11 @@ use Rattle.hazard.proofs.Search.{any-e, any-i}
 use Rattle.hazard.proofs.Choice.{Chosen, choice-start, choice-keep, choice-skip, choice-covers, choice-irredundant}
 use Rattle.cube.specs.Entry.{requiredIn}
 use Rattle.cube.specs.PointSet.{inSet}
+use Rattle.cube.specs.Mask.{cubeOf}
+use Rattle.cube.specs.declared.mask.Cube as masks
+use Rattle.blocks.specs.Blocks.{allowedTo}
+use Rattle.blocks.specs.Sets.{Split}
+use Rattle.choice.specs.Rows.{Inside}
 use Rattle.choice.specs.Network.{cubeIn, networkIn}
 use Rattle.choice.specs.First.{firstIn, placeOf}
 use Rattle.choice.specs.Keep.{neededIn, Noted, Kept}
@@ -185,3 +190,10 @@ module _ {n : ℕ} {required firsts before : List ℕ} (noted : Noted n required
         covers = choice-covers (map (requiredIn n) required) (networkIn n (drop kept now)) (s .chosen);
         own = choice-irredundant (map (requiredIn n) required) (networkIn n (drop kept now)) (s .chosen);
       }
+
+-- The required cubes that lie in the product have left the set.
+pub split-off : {n : ℕ} {required columns : List ℕ} → Inside n required columns → (c : masks.Cube) (w : ℕ) → cubeOf n c ≡ cubeIn n w → (unmet rest taken : List ℕ)
+    → Split (λ k. allowedTo columns k c n) unmet rest taken → length required ≤ 64 * length unmet
+    → (i : ℕ) → i < length required → inSet rest i ≡ (inSet unmet i && not (inside (cubeIn n (getD required i 0)) (cubeIn n w)))
+split-off {n} {required} t c w e unmet rest taken s l i a =
+    s .left i (omega arith) ∙ ap (λ (b : Bool). inSet unmet i && not b) (t .is i a c ∙ ap (inside (cubeIn n (getD required i 0))) e)

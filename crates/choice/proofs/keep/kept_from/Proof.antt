@@ -1,106 +1,113 @@
+use mathlib.Core.Path.{refl}
+use Rattle.choice.proofs.Keeping.{split-off}
+use Rattle.choice.specs.Network.{cubeIn}
+use Rattle.cube.specs.Mask.{cubeOf}
+use Prim.Native.Nat.{_*_}
+use mathlib.Core.Path.{_≡_, sym, ap, _∙_}
+use Prim.Native.Nat.{ℕ, _-_, _≤_}
+use native.Mathlib.Omega.{arith}
+use lib.ListN.{length, getD}
+use Rattle.choice.proofs.Keeping.{Keeping, keeping-start, keeping-turn, keeping-skip, keeping-keep, keeping-end}
+use borrow.Author.Needs.{needs}
 use Rattle.choice.proofs.keep.kept_from.Statement.{statement}
 use Rattle.choice.proofs.keep.kept_from.Tie as tie
-use Rattle.choice.proofs.keep.kept_from.Reads as reads
-use Rattle.choice.proofs.keep.kept_from.Lts as lts
-use Rattle.blocks.proofs.split.split.Reads as split-reads
-use Rattle.blocks.proofs.whole.whole_into.Reads as whole-into-reads
-use Rattle.choice.proofs.keep.needed.Reads as needed-reads
-use Rattle.cube.proofs.entry.cube_in.Reads as cube-in-reads
-use Rattle.cube.proofs.entry.transition_in.Reads as transition-in-reads
 
 abbrev Inv-loop : tie.InvT-loop
-Inv-loop n required columns firsts products₀ unmet₀ taken₀ kept₀ j₀ products unmet taken kept j = ?
+Inv-loop n required columns firsts products₀ unmet₀ taken₀ kept₀ j₀ products unmet taken kept j = Keeping n required products₀ products unmet kept j × (length unmet ≡ length unmet₀) × (length taken ≡ length taken₀)
 
 abbrev μ-loop : tie.MeasureT-loop
-μ-loop n required columns firsts products₀ unmet₀ taken₀ kept₀ j₀ products unmet taken kept j = ?
+μ-loop n required columns firsts products₀ unmet₀ taken₀ kept₀ j₀ products unmet taken kept j = j
 
--- src/keep.rt:69:5
 whole-into-requires : tie.Need-whole-into-requires Inv-loop μ-loop
-whole-into-requires c κs = ?
+whole-into-requires c κs = search needs
 
--- src/keep.rt:72:5
 loop-holds : tie.Need-loop-holds Inv-loop μ-loop
-loop-holds c = ?
+loop-holds c =
+    let s = c .before .before .before .before .before .before .before .before .before .before in
+    let w = c .before .before .whole-into in
+    (keeping-start (s .pre .0 .1) (w .last .1 .0) (omega (arith, s .pre .1 .1, w .kept .1 .0)) (λ k l. w .ensures k (omega (arith, w .kept .1 .0))), refl, refl)
 
--- src/keep.rt:73:9
 sub-j : tie.Need-sub-j Inv-loop μ-loop
-sub-j c = ?
+sub-j c = search needs
 
--- src/keep.rt:74:17
 mul-p : tie.Need-mul-p Inv-loop μ-loop
-mul-p c = ?
+mul-p c = search needs
 
--- src/keep.rt:74:17
 slice-read-p : tie.Need-slice-read-p Inv-loop μ-loop
-slice-read-p c = ?
+slice-read-p c = search needs
 
--- src/keep.rt:75:34
 cast-needed : tie.Need-cast-needed Inv-loop μ-loop
-cast-needed c = ?
+cast-needed c = search needs
 
--- src/keep.rt:75:44
 transition-in-requires : tie.Need-transition-in-requires Inv-loop μ-loop
-transition-in-requires c κs = ?
+transition-in-requires c κs = search needs
 
--- src/keep.rt:75:44
 cast-needed-2 : tie.Need-cast-needed-2 Inv-loop μ-loop
-cast-needed-2 c = ?
+cast-needed-2 c = search needs
 
--- src/keep.rt:75:12
 needed-requires : tie.Need-needed-requires Inv-loop μ-loop
-needed-requires c κs = ?
+needed-requires c κs = omega (arith, c .before .before .before .before .before .before .before .before .before .before .before .before .before .before .before .pre .0 .1 .whole, c .before .before .before .before .loop .inv .0 .wide)
 
--- src/keep.rt:76:13
 sub-kept : tie.Need-sub-kept Inv-loop μ-loop
-sub-kept c = ?
+sub-kept c = search needs
 
--- src/keep.rt:77:13
 mul-products : tie.Need-mul-products Inv-loop μ-loop
-mul-products c = ?
+mul-products c = search needs
 
--- src/keep.rt:77:13
 slice-write-products : tie.Need-slice-write-products Inv-loop μ-loop
-slice-write-products c = ?
+slice-write-products c = search needs
 
--- src/keep.rt:78:31
 cube-in-requires : tie.Need-cube-in-requires Inv-loop μ-loop
-cube-in-requires c κs = ?
+cube-in-requires c κs = search needs
 
--- src/keep.rt:78:13
 split-requires : tie.Need-split-requires Inv-loop μ-loop
-split-requires c κs = ?
+split-requires c κs =
+    let s = c .before .before .before .before .before .before .before .before .before .before .before .before .before .before .before .before .before .before .before .before in
+    let w = c .before .before .before .before .before .before .before .before .before .before .before .before .whole-into in
+    let l = c .before .before .before .before .before .before .before .before .before .loop in
+    (s .pre .0 .0, s .pre .0 .2 .long, omega (arith, l .inv .1, w .kept .1 .0, s .pre .1 .0), l .inv .2 ∙ s .pre .1 .2 ∙ sym (w .kept .1 .0) ∙ sym (l .inv .1))
 
--- src/keep.rt:72:5
 loop-less : tie.Need-loop-less Inv-loop μ-loop
-loop-less c = ?
+loop-less c = search needs
 
--- src/keep.rt:72:5
 loop-again : tie.Need-loop-again Inv-loop μ-loop
-loop-again c = ?
+loop-again c =
+    let s = c .before .before .before .before .before .before .before .before .before .before .before .before .before .before .before .before .before .before .before .before .before .before .before .before .before in
+    let l = c .before .before .before .before .before .before .before .before .before .before .before .before .before .before .loop in
+    let k = c .before .before .before .before .before .before .before .cube-in in
+    let z = c .before .before .before .before .split in
+    let w = getD (l .products) (l .j - 1) 0 in
+    let e : cubeOf (s .args .n) (k .result) ≡ cubeIn (s .args .n) w = rw (k .ensures .0, k .ensures .1) in
+    (
+      keeping-keep (s .pre .0 .1) (keeping-turn (s .pre .0 .1) (l .inv .0) (c .before .before .before .before .before .before .before .before .before .before .before .before .before .loop-test .taken)) (sym (c .before .before .before .before .before .before .before .before .before .needed .ensures) ∙ c .before .before .before .before .before .before .before .before .if1 .taken) (z .last .1 .1 .1 .0)
+      (split-off (s .pre .0 .2) (k .result) w e (l .unmet) (z .last .1 .1 .1 .0) (z .last .1 .1 .1 .1 .0) (z .ensures) (l .inv .0 .wide)) (z .kept .1 .1 .1 .0),
+      z .kept .1 .1 .1 .0 ∙ l .inv .1,
+      z .kept .1 .1 .1 .1 .0 ∙ l .inv .2,
+    )
 
--- src/keep.rt:72:5
 loop-less-2 : tie.Need-loop-less-2 Inv-loop μ-loop
-loop-less-2 c = ?
+loop-less-2 c = search needs
 
--- src/keep.rt:72:5
 loop-again-2 : tie.Need-loop-again-2 Inv-loop μ-loop
-loop-again-2 c = ?
+loop-again-2 c =
+    let l = c .before .before .before .before .before .before .loop in
+    (keeping-skip (c .before .before .before .before .before .before .before .before .before .before .before .before .before .before .before .before .before .pre .0 .1) (keeping-turn (c .before .before .before .before .before .before .before .before .before .before .before .before .before .before .before .before .before .pre .0 .1) (l .inv .0) (omega arith)) (sym (c .before .needed .ensures) ∙ c .if1 .left), l .inv .1, l .inv .2)
 
--- src/keep.rt:56:1
 same-length : tie.Need-same-length Inv-loop μ-loop
-same-length c = ?
+same-length c = c .before .loop .inv .0 .long
 
--- src/keep.rt:56:1
 same-length-2 : tie.Need-same-length-2 Inv-loop μ-loop
-same-length-2 c = ?
+same-length-2 c = c .before .loop .inv .1 ∙ c .before .before .before .before .whole-into .kept .1 .0
 
--- src/keep.rt:56:1
 same-length-3 : tie.Need-same-length-3 Inv-loop μ-loop
-same-length-3 c = ?
+same-length-3 c = c .before .loop .inv .2
 
--- src/keep.rt:56:1
 returns : tie.Need-returns Inv-loop μ-loop
-returns c = ?
+returns c =
+    let s = c .before .before .before .before .before .before .before .before .before .before .before .before in
+    let l = c .before .loop in
+    let e : l .j ≡ 0 = omega arith in
+    keeping-end (s .pre .0 .1) (rw e at (l .inv .0))
 
 pub kept-from-spec : {M : Type 1} → statement M
 kept-from-spec =

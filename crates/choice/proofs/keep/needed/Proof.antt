@@ -1,24 +1,26 @@
+use Rattle.choice.specs.Keep.{neededIn}
+use Rattle.hazard.proofs.Test.{is, so}
+use Rattle.hazard.proofs.Search.{any-i}
+use Rattle.hazard.specs.Search.{found, first}
+use lib.ListN.{length}
+use native.Mathlib.Omega.{arith}
+use mathlib.Core.Path.{sym, _∙_}
 use borrow.Author.Needs.{needs}
 use Rattle.choice.proofs.keep.needed.Statement.{statement}
 use Rattle.choice.proofs.keep.needed.Tie as tie
-use Rattle.choice.proofs.keep.needed.Reads as reads
-use Rattle.choice.proofs.keep.needed.Lts as lts
-use Rattle.choice.proofs.keep.needed_at.Reads as needed-at-reads
-use Rattle.choice.proofs.keep.needed_by_any.Reads as needed-by-any-reads
 
--- src/keep.rt:46:12
 needed-at-requires : tie.Need-needed-at-requires
 needed-at-requires c κs = search needs
 
--- src/keep.rt:47:13
 returns : tie.Need-returns
-returns c = ?
+returns c =
+    let a = c .before .before .before .before .before .args in
+    let t = neededIn (a .firsts .now) (a .unmet .now) (a .j) in
+    sym (is {b = found (first t 0 (length (a .firsts .now)))} (any-i t (length (a .firsts .now)) (a .made-for) (omega arith) (so (sym (c .before .needed-at .ensures) ∙ c .if2 .taken))))
 
--- src/keep.rt:50:5
 needed-by-any-requires : tie.Need-needed-by-any-requires
 needed-by-any-requires c κs = search needs
 
--- src/keep.rt:41:1
 returns-2 : tie.Need-returns-2
 returns-2 c = search needs
 
