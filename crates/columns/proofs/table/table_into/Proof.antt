@@ -66,7 +66,7 @@ loop-less c = search needs
 loop-again : tie.Need-loop-again Inv-loop μ-loop
 loop-again c =
     let l = c .before .before .loop in
-    (omega arith, stored-length (l .out) (l .i) (c .allowed-at .result) ∙ l .inv .1, table-step (l .inv .2) (c .allowed-at .ensures) (omega (arith, l .inv .1)))
+    (omega arith, stored-length (l .out) (l .i) _ _ _ ∙ l .inv .1, table-step (l .inv .2) (c .allowed-at .ensures) (omega (arith, l .inv .1)))
 
 same-length : tie.Need-same-length Inv-loop μ-loop
 same-length c = c .before .loop .inv .1
