@@ -2,36 +2,17 @@
 use mathlib.Core.Path.{_≡_, refl, sym, ap, ap₂, _∙_}
 use mathlib.Core.Bool.{Bool, true, false, cond, _&&_}
 use mathlib.Core.List.{List}
-use Prim.Native.Nat.{ℕ, zero, suc, _+_, _*_, _/_, _%_, _^_, _≤_, _<_}
+use Prim.Native.Nat.{ℕ, zero, suc, _+_, _*_, _/_, _%_, _≤_, _<_}
 use native.Mathlib.Numerals.{add-one}
 use native.Mathlib.Omega.{arith}
-use lib.Bits.{bitAnd, and-shr}
+use lib.Bits.{bitAnd}
 use lib.Dec.{eqb}
 use lib.ListN.{length, getD}
 use Rattle.hazard.specs.Cube.{bit}
-use Rattle.cube.specs.Mask.{digit}
 use Rattle.cube.specs.PointSet.{inSet}
 use Rattle.cube.specs.declared.mask.Cube.{Cube}
-use Rattle.cube.proofs.Bits.{bit-case2, and-last}
+use Rattle.columns.proofs.Narrowing.{and-test}
 use Rattle.blocks.specs.Blocks.{digitAt, allowed, allowedTo}
-
--- A digit is at most 2.
-digit-few : (care value : ℕ) → digit (care % 2) (value % 2) ≤ 2
-digit-few care value = go (eqb (care % 2) 0)
-  where
-    go : (b : Bool) → cond b 2 (value % 2) ≤ 2
-    go true = omega arith
-    go false = omega arith
-
-pub at-few : (c : Cube) (i : ℕ) → digitAt c i ≤ 2
-at-few c i = digit-few (c .care / 2 ^ i) (c .value / 2 ^ i)
-
--- A bit of an `and`, as a test.
-and-bit : (a b i : ℕ) → eqb (bit (bitAnd a b) i) 1 ≡ (eqb (bit a i) 1 && eqb (bit b i) 1)
-and-bit a b i = ap (λ (y : ℕ). eqb (y % 2) 1) (and-shr a b i) ∙ ap (λ (y : ℕ). eqb y 1) (and-last (a / 2 ^ i) (b / 2 ^ i)) ∙ go (a / 2 ^ i) (b / 2 ^ i)
-  where
-    go : (a b : ℕ) → eqb (bitAnd (a % 2) (b % 2)) 1 ≡ (eqb (a % 2) 1 && eqb (b % 2) 1)
-    go = bit-case2 (λ a b. eqb (bitAnd a b) 1 ≡ (eqb a 1 && eqb b 1)) refl refl refl refl
 
 and-swap : (a b c : Bool) → ((a && b) && c) ≡ (a && (b && c))
 and-swap true b c = refl
@@ -56,7 +37,7 @@ narrowing-step {columns} {c} {old} {new} {i} s {at} e {next} l h =
       long = l ∙ s .long;
       is = λ k a.
         ap (λ (w : ℕ). eqb (bit w (k % 64)) 1) (h (k / 64) (omega (arith, s .long)) ∙ ap (λ (y : ℕ). bitAnd (getD new (k / 64) 0) (getD columns (y + k / 64) 0)) e)
-        ∙ and-bit (getD new (k / 64) 0) (getD columns (32 * (3 * i + digitAt c i) + k / 64) 0) (k % 64)
+        ∙ and-test (getD new (k / 64) 0) (getD columns (32 * (3 * i + digitAt c i) + k / 64) 0) (k % 64)
         ∙ ap (λ (b : Bool). b && allowed columns k i (digitAt c i)) (s .is k a)
         ∙ and-swap (inSet old k) (allowedTo columns k c i) (allowed columns k i (digitAt c i))
         ∙ ap (λ (j : ℕ). inSet old k && allowedTo columns k c j) (sym (add-one i));

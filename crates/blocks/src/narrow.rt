@@ -6,7 +6,7 @@ ghost use lib.Bits.{bitAnd};
 ghost use lib.ListN.{length, getD};
 ghost use Rattle.cube.specs.PointSet.{inSet};
 ghost use Rattle.blocks.specs.Blocks.{allowedTo};
-use cube::bytes::digit_of;
+use columns::query::digit_at;
 use cube::mask::Cube;
 
 // Each word of the set, with the word at its place of the run.
@@ -28,7 +28,7 @@ pub fn narrow(n: usize, columns: &[u64], c: Cube, rows: &mut [u64])
 {
     let mut i = 0;
     while i < n {
-        let at = 32 * (3 * i + digit_of(c, i) as usize);
+        let at = 32 * (3 * i + digit_at(c, i));
         narrow_by(columns, at, rows);
         i += 1;
     }

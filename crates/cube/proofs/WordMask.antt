@@ -32,7 +32,7 @@ use Rattle.cube.proofs.Masks.{has-masks}
 high-bit : (a k r : ℕ) {b : ℕ} → b < 2 ^ k → bit (a * 2 ^ k + b) (k + r) ≡ bit a r
 high-bit a k r {b} h = ap (λ (y : ℕ). y % 2) (sym (shr-shr (a * 2 ^ k + b) k r) ∙ ap (λ (y : ℕ). y / 2 ^ r) (high a k h))
 
-mod-bit : (y j r : ℕ) → bit (y % 2 ^ (suc j + r)) r ≡ bit y r
+pub mod-bit : (y j r : ℕ) → bit (y % 2 ^ (suc j + r)) r ≡ bit y r
 mod-bit y j r = ap (λ (z : ℕ). z % 2) (field y (suc j) r) ∙ (rw (add-one j) at (mod-mod-pow (y / 2 ^ r) j 1))
 
 low-bit : (a k r : ℕ) {b : ℕ} → r < k → b < 2 ^ k → bit (a * 2 ^ k + b) r ≡ bit b r
@@ -42,13 +42,13 @@ low-bit a k r {b} l h =
     ∙ ap (λ (y : ℕ). bit y r) (low a k h)
 
 -- A number that is 0 has no bit.
-no-bit : (a i : ℕ) → a ≡ 0 → bit a i ≡ 0
+pub no-bit : (a i : ℕ) → a ≡ 0 → bit a i ≡ 0
 no-bit a i e = ap (λ (y : ℕ). bit y i) e ∙ ap (λ (y : ℕ). y % 2) (zero-div (2 ^ i))
 
-and-bits : (a b i : ℕ) → bit (bitAnd a b) i ≡ bitAnd (bit a i) (bit b i)
+pub and-bits : (a b i : ℕ) → bit (bitAnd a b) i ≡ bitAnd (bit a i) (bit b i)
 and-bits a b i = ap (λ (y : ℕ). y % 2) (and-shr a b i) ∙ and-last (a / 2 ^ i) (b / 2 ^ i)
 
-xor-bits : (a b i : ℕ) → bit (bitXor a b) i ≡ bitXor (bit a i) (bit b i)
+pub xor-bits : (a b i : ℕ) → bit (bitXor a b) i ≡ bitXor (bit a i) (bit b i)
 xor-bits a b i = ap (λ (y : ℕ). y % 2) (xor-shr a b i) ∙ xor-last (a / 2 ^ i) (b / 2 ^ i)
 
 -- The bit of a point, with one input more.

@@ -41,7 +41,7 @@ pub fn product_at(n: usize, bytes: &[u8], at: usize) -> Cube
 }
 
 // The digit of input i.
-pub fn digit_of(c: Cube, i: usize) -> u8
+fn digit_of(c: Cube, i: usize) -> u8
     requires { ⌜ i < 16 ⌝ }
     ensures { λ r. ⌜ r ≡ digit (bit (c .care) i) (bit (c .value) i) ⌝ }
 {

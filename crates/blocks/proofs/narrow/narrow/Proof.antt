@@ -2,7 +2,7 @@ use Prim.Native.Nat.{ℕ, _+_, _*_, _≤_}
 use mathlib.Core.Path.{_≡_, ap}
 use Prim.Native.Nat.{_-_}
 use native.Mathlib.Omega.{arith}
-use Rattle.blocks.proofs.Narrowing.{Narrowing, narrowing-start, narrowing-step, at-few}
+use Rattle.blocks.proofs.Narrowing.{Narrowing, narrowing-start, narrowing-step}
 use borrow.Author.Needs.{needs}
 use Rattle.blocks.proofs.narrow.narrow.Statement.{statement}
 use Rattle.blocks.proofs.narrow.narrow.Tie as tie
@@ -19,11 +19,9 @@ loop-holds c = (omega arith, narrowing-start _ _ _)
 mul-at : tie.Need-mul-at Inv-loop μ-loop
 mul-at c = search needs
 
-digit-of-requires : tie.Need-digit-of-requires Inv-loop μ-loop
-digit-of-requires c κs = search needs
+digit-at-requires : tie.Need-digit-at-requires Inv-loop μ-loop
+digit-at-requires c κs = search needs
 
-cast-at : tie.Need-cast-at Inv-loop μ-loop
-cast-at c = search needs
 
 add-at : tie.Need-add-at Inv-loop μ-loop
 add-at c = search needs
@@ -35,7 +33,7 @@ narrow-by-requires : tie.Need-narrow-by-requires Inv-loop μ-loop
 narrow-by-requires c κs =
     let s = c .before .before .before .before .before .before in
     let l = c .before .before .before .loop in
-    omega (arith, s .pre .0, s .pre .1, s .pre .2, l .inv .1 .long, at-few (s .args .c) (l .i), c .before .digit-of .ensures)
+    omega (arith, s .pre .0, s .pre .1, s .pre .2, l .inv .1 .long, c .before .digit-at .ensures .1)
 
 add-i : tie.Need-add-i Inv-loop μ-loop
 add-i c = search needs
@@ -46,8 +44,8 @@ loop-less c = search needs
 loop-again : tie.Need-loop-again Inv-loop μ-loop
 loop-again c =
     let l = c .before .before .before .before .before .before .loop in
-    let d = c .before .before .before .before .digit-of in
-    (omega arith, narrowing-step (l .inv .1) (ap (λ (y : ℕ). 32 * (3 * l .i + y)) (d .ensures)) (c .before .before .narrow-by .kept .1 .1 .0) (c .before .before .narrow-by .ensures))
+    let d = c .before .before .before .before .digit-at in
+    (omega arith, narrowing-step (l .inv .1) (ap (λ (y : ℕ). 32 * (3 * l .i + y)) (d .ensures .0)) (c .before .before .narrow-by .kept .1 .1 .0) (c .before .before .narrow-by .ensures))
 
 same-length : tie.Need-same-length Inv-loop μ-loop
 same-length c = search needs
@@ -67,8 +65,7 @@ narrow-spec =
     μ-loop
     loop-holds
     mul-at
-    digit-of-requires
-    cast-at
+    digit-at-requires
     add-at
     mul-at-2
     narrow-by-requires

@@ -1,0 +1,114 @@
+-- The words of one input, bit by bit.
+use mathlib.Core.Path.{_≡_, refl, sym, ap, ap₂, _∙_, subst}
+use mathlib.Core.Bool.{Bool, _||_}
+use mathlib.Core.List.{List}
+use Prim.Native.Nat.{ℕ, zero, suc, _+_, _-_, _*_, _/_, _%_, _^_, _≤_, _<_}
+use native.Mathlib.Nat.{not-suc-le-zero, le-of-suc-le-suc, pow-suc}
+use native.Mathlib.Omega.{arith}
+use lib.Dec.{eqb}
+use lib.Bits.{bitAnd, bitXor}
+use lib.Pow.{pow-pos, shr-shr}
+use lib.ListN.{length, getD}
+use Rattle.hazard.specs.Cube.{bit, fits}
+use Rattle.hazard.proofs.Point.{bit-zero, bit-suc}
+use Rattle.cube.specs.Mask.{digit}
+use Rattle.cube.specs.Entry.{careIn, valueIn, pointIn}
+use Rattle.cube.proofs.Bits.{bit-case, bit-case2}
+use Rattle.cube.proofs.WordMask.{mod-bit, and-bits, xor-bits}
+use Rattle.columns.specs.Column.{columnOf}
+use Rattle.columns.specs.Relation.{digitIn, allows}
+use Rattle.columns.specs.Table.{Allowing, AllowedAt}
+use Rattle.columns.specs.declared.relation.Relation.{Relation}
+use Rattle.columns.specs.declared.relation.Allowed.{Allowed}
+use Rattle.columns.proofs.ColumnBits.{column-bit}
+
+-- Every bit of 2^n - 1 below n is 1.
+pub ones-bit : (n k : ℕ) → k < n → bit (2 ^ n - 1) k ≡ 1
+ones-bit zero k h = absurd (not-suc-le-zero h)
+ones-bit (suc n) zero h = bit-zero (2 ^ suc n - 1) ∙ omega (arith, pow-suc 2 n, pow-pos n)
+ones-bit (suc n) (suc k) h =
+    let e : (2 ^ suc n - 1) / 2 ≡ 2 ^ n - 1 = omega (arith, pow-suc 2 n, pow-pos n) in
+    bit-suc (2 ^ suc n - 1) k ∙ ap (λ (y : ℕ). bit y k) e ∙ ones-bit n k (le-of-suc-le-suc h)
+
+not-bit : (x k : ℕ) → k < 64 → bit (bitXor 18446744073709551615 x) k ≡ bitXor 1 (bit x k)
+not-bit x k h = xor-bits 18446744073709551615 x k ∙ ap (λ (y : ℕ). bitXor y (bit x k)) (ones-bit 64 k h)
+
+-- The literals 0, from the columns' bits.
+abbrev zeros : ℕ → ℕ → ℕ
+zeros care value = bitXor care (bitAnd care value)
+
+zeros-bit : (care value k : ℕ) → bit (zeros care value) k ≡ zeros (bit care k) (bit value k)
+zeros-bit care value k = xor-bits care (bitAnd care value) k ∙ ap (bitXor (bit care k)) (and-bits care value k)
+
+module _ (care value : ℕ) where
+  -- A bit that the columns' bits decide, by their four values.
+  by-bits : (b k : ℕ) (f : ℕ → ℕ → ℕ) (test : ℕ → Bool) → b ≡ f (bit care k) (bit value k)
+      → eqb (f 0 0) 1 ≡ test 2 → eqb (f 0 1) 1 ≡ test 2 → eqb (f 1 0) 1 ≡ test 0 → eqb (f 1 1) 1 ≡ test 1
+      → eqb b 1 ≡ test (digit (bit care k) (bit value k))
+  by-bits b k f test e p q s t =
+      ap (λ (y : ℕ). eqb y 1) e ∙ bit-case2 (λ c v. eqb (f c v) 1 ≡ test (digit c v)) p q s t (care / 2 ^ k) (value / 2 ^ k)
+
+  pub inside-allowing : Allowing (λ e d. fits e d) care value (record { zero = zeros care value; one = bitAnd care value; absent = 18446744073709551615 })
+  inside-allowing =
+      record {
+        zero· = λ k h. by-bits (bit (zeros care value) k) k zeros (λ e. fits e 0) (zeros-bit care value k) refl refl refl refl;
+        one· = λ k h. by-bits (bit (bitAnd care value) k) k bitAnd (λ e. fits e 1) (and-bits care value k) refl refl refl refl;
+        absent· = λ k h. by-bits (bit 18446744073709551615 k) k (λ c v. 1) (λ e. fits e 2) (ones-bit 64 k h) refl refl refl refl;
+      }
+
+  module _ (k : ℕ) (h : k < 64) where
+    no-one : eqb (bit (bitXor 18446744073709551615 (bitAnd care value)) k) 1 ≡ fits 0 (digit (bit care k) (bit value k))
+    no-one =
+        by-bits (bit (bitXor 18446744073709551615 (bitAnd care value)) k) k (λ c v. bitXor 1 (bitAnd c v)) (λ e. fits 0 e)
+        (not-bit (bitAnd care value) k h ∙ ap (bitXor 1) (and-bits care value k)) refl refl refl refl
+
+    no-zero : eqb (bit (bitXor 18446744073709551615 (zeros care value)) k) 1 ≡ fits 1 (digit (bit care k) (bit value k))
+    no-zero =
+        by-bits (bit (bitXor 18446744073709551615 (zeros care value)) k) k (λ c v. bitXor 1 (zeros c v)) (λ e. fits 1 e)
+        (not-bit (zeros care value) k h ∙ ap (bitXor 1) (zeros-bit care value k)) refl refl refl refl
+
+  pub meeting-allowing : Allowing (λ e d. eqb d 2 || fits d e) care value
+      (record { zero = bitXor 18446744073709551615 (bitAnd care value); one = bitXor 18446744073709551615 (zeros care value); absent = 18446744073709551615 })
+  meeting-allowing = record { zero· = no-one; one· = no-zero; absent· = inside-allowing .absent· }
+
+  pub containing-allowing : Allowing (λ e d. fits d e) care value
+      (record { zero = bitXor 18446744073709551615 (bitAnd care value); one = bitXor 18446744073709551615 (zeros care value); absent = bitXor 18446744073709551615 care })
+  containing-allowing =
+      record {
+        zero· = no-one;
+        one· = no-zero;
+        absent· = λ k h. by-bits (bit (bitXor 18446744073709551615 care) k) k (λ c v. bitXor 1 c) (λ e. fits 2 e) (not-bit care k h) refl refl refl refl;
+      }
+
+-- The bits of a word's fields.
+low-bits : (y i : ℕ) → i < 16 → bit y i ≡ bit (y % 65536) i
+low-bits y i h =
+    let e : suc (15 - i) + i ≡ 16 = omega arith in
+    sym (subst (λ (j : ℕ). bit (y % 2 ^ j) i ≡ bit y i) e (mod-bit y (15 - i) i))
+
+field-bits : (s w i : ℕ) → i < 16 → bit w (s + i) ≡ bit (w / 2 ^ s % 65536) i
+field-bits s w i h = ap (λ (y : ℕ). y % 2) (sym (shr-shr w s i)) ∙ low-bits (w / 2 ^ s) i h
+
+module _ (rows : List ℕ) {i : ℕ} (h : i < 16) where
+  pub digit-rows : {care value : ℕ} → care ≡ columnOf (16 + i) rows → value ≡ columnOf i rows → (k : ℕ) → k < length rows → digit (bit care k) (bit value k) ≡ digitIn (getD rows k 0) i
+  digit-rows p q k l =
+      ap₂ digit
+      (ap (λ (y : ℕ). bit y k) p ∙ column-bit (16 + i) rows k l ∙ field-bits 16 (getD rows k 0) i h)
+      (ap (λ (y : ℕ). bit y k) q ∙ column-bit i rows k l ∙ low-bits (getD rows k 0) i h)
+
+  pub point-rows : {value : ℕ} → length rows ≤ 64 → value ≡ columnOf (32 + i) rows → (k : ℕ) → k < length rows → digit (bit 18446744073709551615 k) (bit value k) ≡ bit (pointIn (getD rows k 0)) i
+  point-rows m q k l =
+      ap₂ digit
+      (ones-bit 64 k (omega arith))
+      (ap (λ (y : ℕ). bit y k) q ∙ column-bit (32 + i) rows k l ∙ field-bits 32 (getD rows k 0) i h)
+
+-- The words of the rows, from those of the columns.
+pub allowed-rows : {test : ℕ → ℕ → Bool} {care value i : ℕ} {r : Allowed} (rel : Relation) (rows : List ℕ) (row : ℕ → ℕ)
+    → Allowing test care value r → length rows ≤ 64 → ((k : ℕ) → k < length rows → digit (bit care k) (bit value k) ≡ row (getD rows k 0))
+    → ((w d : ℕ) → test (row w) d ≡ allows rel w i d) → AllowedAt rel rows i r
+allowed-rows {test} rel rows row s m e a =
+    record {
+      zero· = λ k l. s .zero· k (omega arith) ∙ ap (λ (x : ℕ). test x 0) (e k l) ∙ a (getD rows k 0) 0;
+      one· = λ k l. s .one· k (omega arith) ∙ ap (λ (x : ℕ). test x 1) (e k l) ∙ a (getD rows k 0) 1;
+      absent· = λ k l. s .absent· k (omega arith) ∙ ap (λ (x : ℕ). test x 2) (e k l) ∙ a (getD rows k 0) 2;
+    }

@@ -1,0 +1,3 @@
+pub mod Column
+pub mod Relation
+pub mod Table
