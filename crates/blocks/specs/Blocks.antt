@@ -1,14 +1,17 @@
 -- Rows in blocks of 64: for each input and digit a run of 32 words, word b of it for rows 64 b to 64 b + 63.
 use mathlib.Core.Path.{_≡_}
+use mathlib.Core.Logic.{_≢_}
 use mathlib.Core.Bool.{Bool, true, _&&_}
 use mathlib.Core.List.{List}
-use Prim.Native.Nat.{ℕ, zero, suc, _+_, _*_, _/_, _%_, _<_}
+use Prim.Native.Nat.{ℕ, zero, suc, _+_, _*_, _/_, _%_, _≤_, _<_}
 use lib.Dec.{eqb}
 use lib.ListN.{length, getD}
 use Rattle.hazard.specs.Cube as digits
 use Rattle.hazard.specs.Cube.{bit}
 use Rattle.cube.specs.Mask.{digit, cubeOf}
 use Rattle.cube.specs.declared.mask.Cube.{Cube}
+use Rattle.columns.specs.Relation.{allows}
+use Rattle.columns.specs.declared.relation.Relation.{Relation}
 
 -- The digit of input i.
 abbrev pub digitAt : Cube → ℕ → ℕ
@@ -27,3 +30,16 @@ allowedTo columns k c (suc i) = allowedTo columns k c i && allowed columns k i (
 pub record Blocks (related : ℕ → digits.Cube → Bool) (n : ℕ) (rows columns : List ℕ) : Type 0 where
   pub long : length columns ≡ 960
   pub is : (k : ℕ) → k < length rows → (c : Cube) → allowedTo columns k c n ≡ related (getD rows k 0) (cubeOf n c)
+
+-- A block has 64 rows, or those that are left.
+pub record BlockEnd (from count r : ℕ) : Type 0 where
+  pub low : from ≤ r
+  pub high : r ≤ count
+  pub few : r ≤ from + 64
+  pub full : r < count → r ≡ from + 64
+
+-- The words of block b are those of its rows; the words of other blocks are as they were.
+pub record BlockFilled (rel : Relation) (n : ℕ) (rows : List ℕ) (b : ℕ) (before after : List ℕ) : Type 0 where
+  pub long : length after ≡ length before
+  pub is : (i d k : ℕ) → i < n → d < 3 → k < length rows → eqb (bit (getD after (32 * (3 * i + d) + b) 0) k) 1 ≡ allows rel (getD rows k 0) i d
+  pub others : (i d a : ℕ) → a < 32 → a ≢ b → getD after (32 * (3 * i + d) + a) 0 ≡ getD before (32 * (3 * i + d) + a) 0

@@ -1,0 +1,82 @@
+use mathlib.Core.Path.{sym, _∙_}
+use Prim.Native.Nat.{_≤_}
+use Prim.Native.Nat.{_-_, _*_}
+use lib.ListN.{length}
+use native.Mathlib.Omega.{arith}
+use Rattle.blocks.proofs.Storing.{Filled, filled-start, filled-step, filled-end}
+use borrow.Author.Needs.{needs}
+use Rattle.blocks.proofs.fill.blocks_into.Statement.{statement}
+use Rattle.blocks.proofs.fill.blocks_into.Tie as tie
+
+abbrev Inv-loop : tie.InvT-loop
+Inv-loop rel n rows columns₀ b₀ columns b = Filled rel n rows columns b × (b ≤ 32)
+
+abbrev μ-loop : tie.MeasureT-loop
+μ-loop rel n rows columns₀ b₀ columns b = length rows - 64 * b
+
+loop-holds : tie.Need-loop-holds Inv-loop μ-loop
+loop-holds c = (filled-start _ _ _ _ (c .before .before .pre .2), omega arith)
+
+mul-loop : tie.Need-mul-loop Inv-loop μ-loop
+mul-loop c = search needs
+
+mul-from : tie.Need-mul-from Inv-loop μ-loop
+mul-from c = search needs
+
+block-end-requires : tie.Need-block-end-requires Inv-loop μ-loop
+block-end-requires c κs = search needs
+
+mul-block-into : tie.Need-mul-block-into Inv-loop μ-loop
+mul-block-into c = search needs
+
+sub-block-into : tie.Need-sub-block-into Inv-loop μ-loop
+sub-block-into c = search needs
+
+part-block-into-start : tie.Need-part-block-into-start Inv-loop μ-loop
+part-block-into-start c = search needs
+
+part-block-into-end : tie.Need-part-block-into-end Inv-loop μ-loop
+part-block-into-end c = search needs
+
+block-into-requires : tie.Need-block-into-requires Inv-loop μ-loop
+block-into-requires c κs = search needs
+
+add-b : tie.Need-add-b Inv-loop μ-loop
+add-b c = search needs
+
+loop-less : tie.Need-loop-less Inv-loop μ-loop
+loop-less c = search needs
+
+loop-again : tie.Need-loop-again Inv-loop μ-loop
+loop-again c =
+    let s = c .before .before .before .before .before .before .before .before .before .before in
+    let l = c .before .before .before .before .before .before .before .loop in
+    let f = c .before .before .block-into in
+    (filled-step (l .inv .0) (c .before .before .before .before .before .before .loop-test .taken) (s .pre .0) (c .before .before .before .before .before .block-end .ensures) (f .last .1 .1 .1 .1 .0) (f .ensures), omega (arith, s .pre .0, c .before .before .before .before .before .before .loop-test .taken))
+
+same-length : tie.Need-same-length Inv-loop μ-loop
+same-length c = c .before .loop .inv .0 .long ∙ sym (c .before .before .before .before .pre .2)
+
+returns : tie.Need-returns Inv-loop μ-loop
+returns c = filled-end (c .before .loop .inv .0) (c .loop-test .left)
+
+pub blocks-into-spec : {M : Type 1} → statement M
+blocks-into-spec =
+    tie.close
+    (tie.spec
+    Inv-loop
+    μ-loop
+    loop-holds
+    mul-loop
+    mul-from
+    block-end-requires
+    mul-block-into
+    sub-block-into
+    part-block-into-start
+    part-block-into-end
+    block-into-requires
+    add-b
+    loop-less
+    loop-again
+    same-length
+    returns)

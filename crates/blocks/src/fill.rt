@@ -1,0 +1,48 @@
+// The columns of up to 2,048 rows, block by block.
+ghost use mathlib.Core.Path.{_≡_};
+ghost use Prim.Native.Nat.{ℕ, _*_, _≤_, _<_};
+ghost use lib.ListN.{length};
+ghost use Rattle.columns.specs.Relation.{relates};
+ghost use Rattle.blocks.specs.Blocks.{Blocks, BlockEnd, BlockFilled};
+use columns::relation::Relation;
+use columns::relation::allowed_at;
+
+// The words of block b, whose rows are lent.
+fn block_into(rel: Relation, n: usize, rows: &[u64], b: usize, columns: &mut [u64])
+    requires { ⌜ (length (now rows) ≤ 64) × (n ≤ 10) × (b < 32) × (length (now columns) ≡ 960) ⌝ }
+    ensures { λ _. ⌜ BlockFilled rel n (now (rows .entry)) b (now (columns .entry)) (now (columns .exit)) ⌝ }
+{
+    let mut i = 0;
+    while i < n {
+        let words = allowed_at(rel, rows, i);
+        columns[96 * i + b] = words.zero;
+        columns[96 * i + 32 + b] = words.one;
+        columns[96 * i + 64 + b] = words.absent;
+        i += 1;
+    }
+}
+
+// Where a block that starts at a row ends.
+fn block_end(from: usize, count: usize) -> usize
+    requires { ⌜ (from < count) × (count ≤ 2048) ⌝ }
+    ensures { λ r. ⌜ BlockEnd from count r ⌝ }
+{
+    if count - from < 64 {
+        return count;
+    }
+    from + 64
+}
+
+// The columns of all rows.
+pub fn blocks_into(rel: Relation, n: usize, rows: &[u64], columns: &mut [u64])
+    requires { ⌜ (length (now rows) ≤ 2048) × (n ≤ 10) × (length (now columns) ≡ 960) ⌝ }
+    ensures { λ _. ⌜ Blocks (λ w c. relates rel n c w) n (now (rows .entry)) (now (columns .exit)) ⌝ }
+{
+    let mut b = 0;
+    while 64 * b < rows.len() {
+        let from = 64 * b;
+        let to = block_end(from, rows.len());
+        block_into(rel, n, &rows[from..to], b, columns);
+        b += 1;
+    }
+}
