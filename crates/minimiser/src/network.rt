@@ -1,43 +1,19 @@
 // A network for a problem that checks 1 to 9 let through, or its first blocking cube.
 ghost use mathlib.Core.Path.{_≡_};
-ghost use mathlib.Core.List.{map};
-ghost use Prim.Native.Nat.{ℕ, _*_, _≤_, _<_};
-ghost use lib.ListN.{length, getD};
+ghost use Prim.Native.Nat.{_*_, _≤_};
+ghost use lib.ListN.{length};
 ghost use Rattle.hazard.specs.Sets as sets;
 ghost use Rattle.hazard.specs.Transition as transition;
-ghost use Rattle.cube.specs.Entry.{requiredIn, privilegedIn, CleanWord};
-ghost use Rattle.cube.specs.PointSet.{inSet};
 ghost use Rattle.problem.specs.Ready.{Ready};
-ghost use Rattle.expand.specs.Ready as expand;
 ghost use Rattle.minimiser.specs.Answer.{minimisedOf, Answered};
 use crate::select::select;
-use expand::blocking::first_blocking;
-use problem::refusal::Checked;
 use problem::refusal::Refusal;
 use problem::sets::sets_into;
 
-// How many products were written, or why there are none.
+// How many products there are, or why there are none.
 pub enum Minimised {
     Products(usize),
     Refused(Refusal),
-}
-
-// The first blocking cube is refused; where there is none, a network is written.
-fn cover_sets(
-    n: usize,
-    off: &[u64],
-    privileged: &[u64],
-    required: &[u64],
-    cover: &mut [u8],
-) -> Minimised
-    requires { ⌜ expand.Ready n (now off) × (length (now required) ≤ 2048) × (length (now required) * n ≤ length (now cover)) ⌝ }
-    requires { ⌜ ((k : ℕ) → CleanWord n (getD (now required) k 0)) ⌝ }
-    ensures { λ r. ⌜ Answered n (inSet (now (off .entry))) (map (privilegedIn n) (now (privileged .entry))) (map (requiredIn n) (now (required .entry))) (now (cover .entry)) (now (cover .exit)) (minimisedOf r) ⌝ }
-{
-    if let Checked::Refused(r) = first_blocking(n, off, privileged, required) {
-        return Minimised::Refused(r);
-    }
-    Minimised::Products(select(n, off, privileged, required, cover))
 }
 
 // The problem's sets are stored in the lent room, and covered.
@@ -57,7 +33,7 @@ fn cover_with(
     let s = sets_into(n, table, transitions, off, privileged, required);
     let p = s.privileged;
     let r = s.required;
-    cover_sets(n, off, &privileged[0..p], &required[0..r], cover)
+    select(n, off, &privileged[0..p], &required[0..r], cover)
 }
 
 // The same, in room of its own.

@@ -9,26 +9,26 @@ use Rattle.minimiser.proofs.network.cover_with.Tie as tie
 sets-into-requires : tie.Need-sets-into-requires
 sets-into-requires c κs = search needs
 
-sub-cover-sets : tie.Need-sub-cover-sets
-sub-cover-sets c = search needs
+sub-select : tie.Need-sub-select
+sub-select c = search needs
 
-part-cover-sets-start : tie.Need-part-cover-sets-start
-part-cover-sets-start c = search needs
+part-select-start : tie.Need-part-select-start
+part-select-start c = search needs
 
-part-cover-sets-end : tie.Need-part-cover-sets-end
-part-cover-sets-end c = search needs
+part-select-end : tie.Need-part-select-end
+part-select-end c = search needs
 
-sub-cover-sets-2 : tie.Need-sub-cover-sets-2
-sub-cover-sets-2 c = search needs
+sub-select-2 : tie.Need-sub-select-2
+sub-select-2 c = search needs
 
-part-cover-sets-start-2 : tie.Need-part-cover-sets-start-2
-part-cover-sets-start-2 c = search needs
+part-select-start-2 : tie.Need-part-select-start-2
+part-select-start-2 c = search needs
 
-part-cover-sets-end-2 : tie.Need-part-cover-sets-end-2
-part-cover-sets-end-2 c = search needs
+part-select-end-2 : tie.Need-part-select-end-2
+part-select-end-2 c = search needs
 
-cover-sets-requires : tie.Need-cover-sets-requires
-cover-sets-requires c κs =
+select-requires : tie.Need-select-requires
+select-requires c κs =
     let s = c .before .before .before .before .before .before .before .before .before .before .before .before .before .before .before .before .before .before .before .before .before .before in
     let o = c .before .before .before .before .before .before .before .before .before .before .before .before .sets-into in
     let h = parts (o .ensures .2) in
@@ -47,20 +47,20 @@ same-length-4 : tie.Need-same-length-4
 same-length-4 c = search needs
 
 returns : tie.Need-returns
-returns c = answered-sets (parts (c .before .before .before .before .before .before .before .before .before .before .before .before .before .before .before .sets-into .ensures .2)) (c .before .before .cover-sets .ensures)
+returns c = answered-sets (parts (c .before .before .before .before .before .before .before .before .before .before .before .before .before .before .before .sets-into .ensures .2)) (c .before .before .select .ensures)
 
 pub cover-with-spec : {M : Type 1} → statement M
 cover-with-spec =
     tie.close
     (tie.spec
     sets-into-requires
-    sub-cover-sets
-    part-cover-sets-start
-    part-cover-sets-end
-    sub-cover-sets-2
-    part-cover-sets-start-2
-    part-cover-sets-end-2
-    cover-sets-requires
+    sub-select
+    part-select-start
+    part-select-end
+    sub-select-2
+    part-select-start-2
+    part-select-end-2
+    select-requires
     same-length
     same-length-2
     same-length-3

@@ -18,7 +18,7 @@ slice-aggregate-select-with c = search needs
 select-with-requires : tie.Need-select-with-requires
 select-with-requires c κs =
     let s = c .before .before .before .before .before .before .before in
-    ((s .pre .0 .0, s .pre .0 .1, room-length 65535 _ (s .pre .0 .1), s .pre .0 .1, s .pre .0 .2), (s .pre .1 .0, (room-entry 65535 _ (s .pre .0 .1), s .pre .1 .1)))
+    ((s .pre .0 .0, s .pre .0 .1, room-length 65535 _ (s .pre .0 .1), s .pre .0 .1, s .pre .0 .2), (s .pre .1, room-entry 65535 _ (s .pre .0 .1)))
 
 same-length : tie.Need-same-length
 same-length c = search needs
