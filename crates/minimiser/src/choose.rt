@@ -33,7 +33,7 @@ pub fn choose(
         let r = i;
         i += 1;
         if firsts[r] == NONE {
-            let made = product_for(n, off, privileged, required, r);
+            let made = product_for(n, off, privileged, required, firsts, r);
             match made {
                 Made::Blocked(q) => return Minimised::Refused(q),
                 Made::Product(c) => {

@@ -1,4 +1,5 @@
 // The product that is chosen for a required cube.
+ghost use mathlib.Core.Path.{_≡_};
 ghost use mathlib.Core.List.{map};
 ghost use Prim.Native.Nat.{ℕ, _≤_, _<_};
 ghost use lib.Dec.{T};
@@ -9,6 +10,7 @@ ghost use Rattle.cube.specs.Entry.{privilegedIn, CleanWord};
 ghost use Rattle.cube.specs.PointSet.{inSet};
 ghost use Rattle.expand.specs.Ready.{Ready};
 ghost use Rattle.minimiser.specs.Product.{Over, PrimeOver, MadeFor};
+use choice::first::NONE;
 use cube::entry::cube_in;
 use cube::mask::Cube;
 use cube::mask::lies_inside;
@@ -19,12 +21,17 @@ use expand::prime::absorbed;
 use expand::prime::expanded;
 use problem::refusal::Refusal;
 
-// The cube grown over a further one, where that ends legal; nothing to do where it lies inside already.
-fn grown_over(n: usize, off: &[u64], privileged: &[u64], c: Cube, d: Cube) -> Cube
+// The cube grown over a further required cube, where that ends legal. A required cube that lies in a product already needs no other, so
+// it is not tried.
+fn grown_over(n: usize, off: &[u64], privileged: &[u64], c: Cube, w: u64, first: u16) -> Cube
     requires { ⌜ Ready n (now off) ⌝ }
     requires { ⌜ Clean n c ⌝ }
     ensures { λ r. ⌜ Over n (now (off .entry)) (now (privileged .entry)) c r ⌝ }
 {
+    if first != NONE {
+        return c;
+    }
+    let d = cube_in(w);
     if lies_inside(d, c) {
         return c;
     }
@@ -45,10 +52,18 @@ fn reach_of(i: usize, count: usize) -> usize
     i + REACH
 }
 
-// The dhf-implicant c grown over the required cubes after place i where that stays legal, and expanded to a dhf-prime. The growth over
-// the others makes for fewer products; no promise rests on it.
-fn widened(n: usize, off: &[u64], privileged: &[u64], required: &[u64], i: usize, c: Cube) -> Cube
-    requires { ⌜ Ready n (now off) × (i < length (now required)) ⌝ }
+// The dhf-implicant c grown over those required cubes after place i that lie in no product yet, where that stays legal, and expanded to
+// a dhf-prime. The growth over the others makes for fewer products; no promise rests on it.
+fn widened(
+    n: usize,
+    off: &[u64],
+    privileged: &[u64],
+    required: &[u64],
+    firsts: &[u16],
+    i: usize,
+    c: Cube,
+) -> Cube
+    requires { ⌜ Ready n (now off) × (i < length (now required)) × (length (now firsts) ≡ length (now required)) ⌝ }
     requires { ⌜ Clean n c × T (dhfImplicant n (inSet (now off)) (map (privilegedIn n) (now privileged)) (cubeOf n c)) ⌝ }
     ensures { λ r. ⌜ PrimeOver n (now (off .entry)) (now (privileged .entry)) (cubeOf n c) r ⌝ }
 {
@@ -56,7 +71,7 @@ fn widened(n: usize, off: &[u64], privileged: &[u64], required: &[u64], i: usize
     let end = reach_of(i, required.len());
     let mut k = i + 1;
     while k < end {
-        p = grown_over(n, off, privileged, p, cube_in(required[k]));
+        p = grown_over(n, off, privileged, p, required[k], firsts[k]);
         k += 1;
     }
     expanded(n, off, privileged, p)
@@ -69,15 +84,22 @@ pub enum Made {
 }
 
 // Supercube-dhf of required cube i, widened; or refusal 10, where its growth ends blocked.
-pub fn product_for(n: usize, off: &[u64], privileged: &[u64], required: &[u64], i: usize) -> Made
-    requires { ⌜ Ready n (now off) × (i < length (now required)) ⌝ }
+pub fn product_for(
+    n: usize,
+    off: &[u64],
+    privileged: &[u64],
+    required: &[u64],
+    firsts: &[u16],
+    i: usize,
+) -> Made
+    requires { ⌜ Ready n (now off) × (i < length (now required)) × (length (now firsts) ≡ length (now required)) ⌝ }
     requires { ⌜ ((k : ℕ) → CleanWord n (getD (now required) k 0)) ⌝ }
     ensures { λ r. ⌜ MadeFor n (now (off .entry)) (now (privileged .entry)) (getD (now (required .entry)) i 0) r ⌝ }
 {
     let w = required[i];
     let grown = grow(n, off, privileged, cube_in(w));
     match grown {
-        Grown::Legal(c, _) => Made::Product(widened(n, off, privileged, required, i, c)),
+        Grown::Legal(c, _) => Made::Product(widened(n, off, privileged, required, firsts, i, c)),
         Grown::Blocked(z, s) => Made::Blocked(refusal_of(w, z, s)),
     }
 }

@@ -35,21 +35,21 @@ slice-read-if1 : tie.Need-slice-read-if1 Inv-loop μ-loop
 slice-read-if1 c = omega (arith, c .before .before .loop .inv .0 .choosing .whole)
 
 product-for-requires : tie.Need-product-for-requires Inv-loop μ-loop
-product-for-requires c κs = let s = c .before .before .before .before .before .before .before .before .before in ((s .pre .0 .0, omega arith), s .pre .1 .0)
+product-for-requires c κs = let l = c .before .before .before .before .loop in let s = c .before .before .before .before .before .before .before .before .before .before in ((s .pre .0 .0, omega arith, l .inv .0 .choosing .whole), s .pre .1 .0)
 
 enum-known-made : tie.Need-enum-known-made Inv-loop μ-loop
 enum-known-made c = search needs
 
 same-length : tie.Need-same-length Inv-loop μ-loop
-same-length c = let s = c .before .before .before .before .before .before .before .before .before .before .before .before .before in c .before .before .before .before .before .before .before .loop .inv .0 .choosing .whole ∙ sym (s .pre .0 .2)
+same-length c = let s = c .before .before .before .before .before .before .before .before .before .before .before .before .before .before in c .before .before .before .before .before .before .before .before .loop .inv .0 .choosing .whole ∙ sym (s .pre .0 .2)
 
 same-length-2 : tie.Need-same-length-2 Inv-loop μ-loop
-same-length-2 c = c .before .before .before .before .before .before .before .loop .inv .1
+same-length-2 c = c .before .before .before .before .before .before .before .before .loop .inv .1
 
 returns : tie.Need-returns Inv-loop μ-loop
 returns c =
-    let a = c .before .before .before .before .before .before .before .before .before .before .before .before .before .args in
-    let l = c .before .before .before .before .before .before .before .loop in
+    let a = c .before .before .before .before .before .before .before .before .before .before .before .before .before .before .args in
+    let l = c .before .before .before .before .before .before .before .before .loop in
     turn-blocked (a .n) (a .off .now) (a .privileged .now) (l .inv .0) (omega arith) (subst (MadeFor (a .n) (a .off .now) (a .privileged .now) (getD (a .required .now) (l .i) 0)) (c .before .made .given .1) (c .before .before .before .product-for .ensures))
 
 enum-known-made-2 : tie.Need-enum-known-made-2 Inv-loop μ-loop
@@ -62,23 +62,23 @@ mul-products : tie.Need-mul-products Inv-loop μ-loop
 mul-products c = search needs
 
 slice-write-products : tie.Need-slice-write-products Inv-loop μ-loop
-slice-write-products c = let l = c .before .before .before .before .before .before .before .before .loop in omega (arith, l .inv .0 .choosing .few, l .inv .0 .choosing .room)
+slice-write-products c = let l = c .before .before .before .before .before .before .before .before .before .loop in omega (arith, l .inv .0 .choosing .few, l .inv .0 .choosing .room)
 
 cast-note : tie.Need-cast-note Inv-loop μ-loop
-cast-note c = let l = c .before .before .before .before .before .before .before .before .before .loop in omega (arith, l .inv .0 .choosing .few, l .inv .0 .choosing .many)
+cast-note c = let l = c .before .before .before .before .before .before .before .before .before .before .loop in omega (arith, l .inv .0 .choosing .few, l .inv .0 .choosing .many)
 
 -- The word that is chosen holds a dhf-prime around the required cube.
 word-is : (c : tie.After-pack Inv-loop μ-loop)
-    → let a = c .before .before .before .before .before .before .before .before .before .before .before .before .before .before .args in
-    let v = getD (a .required .now) (c .before .before .before .before .before .before .before .before .loop .i) 0 in
+    → let a = c .before .before .before .before .before .before .before .before .before .before .before .before .before .before .before .args in
+    let v = getD (a .required .now) (c .before .before .before .before .before .before .before .before .before .loop .i) 0 in
     PrimeWord (a .n) (a .off .now) (a .privileged .now) (c .pack .result) × T (inside (cubeIn (a .n) v) (cubeIn (a .n) (c .pack .result)))
 word-is c =
-    let a = c .before .before .before .before .before .before .before .before .before .before .before .before .before .before .args in
-    let v = getD (a .required .now) (c .before .before .before .before .before .before .before .before .loop .i) 0 in
+    let a = c .before .before .before .before .before .before .before .before .before .before .before .before .before .before .before .args in
+    let v = getD (a .required .now) (c .before .before .before .before .before .before .before .before .before .loop .i) 0 in
     product-word (a .n) (a .off .now) (a .privileged .now) v (subst (MadeFor (a .n) (a .off .now) (a .privileged .now) v) (c .before .before .made2 .given .1) (c .before .before .before .before .product-for .ensures)) (c .pack .ensures)
 
 note-requires : tie.Need-note-requires Inv-loop μ-loop
-note-requires c κs = (omega (arith, c .before .before .before .before .before .before .before .before .before .loop .inv .0 .choosing .whole), word-is (c .before) .0 .clean .small)
+note-requires c κs = (omega (arith, c .before .before .before .before .before .before .before .before .before .before .loop .inv .0 .choosing .whole), word-is (c .before) .0 .clean .small)
 
 add-m : tie.Need-add-m Inv-loop μ-loop
 add-m c = search needs
@@ -88,8 +88,8 @@ loop-less c = search needs
 
 loop-again : tie.Need-loop-again Inv-loop μ-loop
 loop-again c =
-    let a = c .before .before .before .before .before .before .before .before .before .before .before .before .before .before .before .before .before .before .args in
-    let l = c .before .before .before .before .before .before .before .before .before .before .before .before .loop in
+    let a = c .before .before .before .before .before .before .before .before .before .before .before .before .before .before .before .before .before .before .before .args in
+    let l = c .before .before .before .before .before .before .before .before .before .before .before .before .before .loop in
     let w = word-is (c .before .before .before .before) in (
       turn-next (a .n) (a .off .now) (a .privileged .now) (l .inv .0) (omega arith)
           (choosing-add (l .inv .0 .choosing) (omega arith) (c .before .before .before .before .pack .result) (w .0) (w .1) (c .before .before .note .ensures) (c .before .before .note .kept .1 .1 .0)),
