@@ -103,7 +103,7 @@ module _ (n : ℕ) (off privileged : List ℕ) where
       record { fits = h .fits; prime = h .prime; around = →inside (inside-trans (inside→ c (cubeOf n p) (s .around)) (inside→ (cubeOf n p) (cubeOf n r) (h .around))) }
 
   -- The product packed into a word.
-  pub product-word : (v : ℕ) {w : ℕ} {r : masks.Cube} → PrimeOver n off privileged (cubeIn n v) r → Packed w 0 0 (r .care) (r .value) → PrimeWord n off privileged w × T (inside (cubeIn n v) (cubeIn n w))
+  pub product-word : (v : ℕ) {w t : ℕ} {r : masks.Cube} → PrimeOver n off privileged (cubeIn n v) r → Packed w t 0 (r .care) (r .value) → PrimeWord n off privileged w × T (inside (cubeIn n v) (cubeIn n w))
   product-word v {w} {r} h p =
       let s : Stands n r (cubeOf n r) = record { fits = h .fits; is = refl } in
       let e : cubeIn n w ≡ cubeOf n r = packed-is p s in

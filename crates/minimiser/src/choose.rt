@@ -37,7 +37,8 @@ pub fn choose(
             match made {
                 Made::Blocked(q) => return Minimised::Refused(q),
                 Made::Product(c) => {
-                    let p = pack(0, 0, c);
+                    // The word carries the place of the required cube that the product is for.
+                    let p = pack(r as u16, 0, c);
                     products[m] = p;
                     note(n, required, firsts, p, m as u16);
                     m += 1;
