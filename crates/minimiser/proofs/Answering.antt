@@ -45,7 +45,7 @@ choice-refused n off privileged required firsts products before h e =
 
 -- The stored sets are the problem's.
 module _ {n : ℕ} {f ts off vs rs : List ℕ} {p r : ℕ} (s : StoredSets n f ts off vs rs p r) where
-  required-length : length (take r rs) ≡ length (sets.required n f ts)
+  pub required-length : length (take r rs) ≡ length (sets.required n f ts)
   required-length = sym (length-map (take r rs) (requiredIn n)) ∙ ap (λ (l : List sets.Required). length l) (s .required·)
 
   pub required-fits : {b : ℕ} → length (sets.required n f ts) ≤ b → length (take r rs) ≤ b

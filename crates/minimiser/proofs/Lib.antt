@@ -2,4 +2,5 @@ pub mod Products
 pub mod Choices
 pub mod Writing
 pub mod Selecting
+pub mod Rooms
 pub mod Answering

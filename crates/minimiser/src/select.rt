@@ -10,11 +10,10 @@ ghost use Rattle.minimiser.specs.Answer.{minimisedOf, Answered};
 use crate::choose::choose;
 use crate::network::Minimised;
 use crate::write::write_network;
-use choice::first::NONE;
 use choice::keep::kept_from;
 
 // Products are chosen forwards, those that can be dropped are dropped backwards, and the others are written; or a required cube blocks.
-fn select_with(
+pub fn select(
     n: usize,
     off: &[u64],
     privileged: &[u64],
@@ -35,29 +34,4 @@ fn select_with(
     let kept = kept_from(n, required, firsts, &mut products[0..m]);
     write_network(n, &products[kept..m], cover);
     Minimised::Products(m - kept)
-}
-
-// The same, in room of its own.
-pub fn select(
-    n: usize,
-    off: &[u64],
-    privileged: &[u64],
-    required: &[u64],
-    cover: &mut [u8],
-) -> Minimised
-    requires { ⌜ Ready n (now off) × (length (now required) ≤ 2048) × (length (now required) * n ≤ length (now cover)) ⌝ }
-    requires { ⌜ ((k : ℕ) → CleanWord n (getD (now required) k 0)) ⌝ }
-    ensures { λ r. ⌜ Answered n (inSet (now (off .entry))) (map (privilegedIn n) (now (privileged .entry))) (map (requiredIn n) (now (required .entry))) (now (cover .entry)) (now (cover .exit)) (minimisedOf r) ⌝ }
-{
-    let mut firsts = [NONE; 2048];
-    let mut products = [0u64; 2048];
-    select_with(
-        n,
-        off,
-        privileged,
-        required,
-        &mut firsts[0..required.len()],
-        &mut products,
-        cover,
-    )
 }
