@@ -1,51 +1,51 @@
 -- From the answer for the stored sets to the minimiser's promise.
-use mathlib.Core.Path.{_≡_, refl, sym, ap, _∙_}
+use mathlib.Core.Path.{_≡_, refl, sym, ap, _∙_, subst}
 use mathlib.Core.Bool.{Bool}
-use mathlib.Core.List.{List, [], _∷_, _++_, map, Memᴰ·map}
+use mathlib.Core.List.{List, [], _∷_, _++_, map}
 use mathlib.Core.Option.{Option, none, some, Option·some-injective}
 use Prim.Native.Nat.{ℕ, _*_, _≤_, _<_}
 use native.Mathlib.Nat.{mul-comm, mul-le-mul, not-le-of-lt}
 use native.Mathlib.Omega.{arith}
 use lib.Dec.{ltb, lt→ltb, ltb→lt}
-use lib.ListN.{length, getD, take, drop, length-map}
+use lib.ListN.{length, take, drop, length-map}
 use Rattle.hazard.specs.Search.{firstOf}
 use Rattle.hazard.specs.Transition as transition
 use Rattle.hazard.specs.Sets as sets
-use Rattle.hazard.specs.Growth.{Grown, grow}
 use Rattle.hazard.specs.Refusal.{Refusal, refusal, inputChecks, Accepted}
-use Rattle.hazard.specs.Minimal.{blockCheck, roomCheck, blocking, minimiserChecks, Minimised, written, declined, bytesOf, Promise}
-use Rattle.hazard.proofs.Search.{none-some, firstOf-map, firstOf-left, firstOf-right, firstOf-one}
+use Rattle.hazard.specs.Minimal.{roomCheck, blocking, minimiserChecks, Minimised, written, declined, bytesOf, Promise}
+use Rattle.hazard.proofs.Search.{none-some, firstOf-left, firstOf-right, firstOf-one}
 use Rattle.hazard.proofs.Rules.{few-inputs, required-few}
-use Rattle.hazard.proofs.Minimal.{block-none, minimal}
+use Rattle.hazard.proofs.Minimal.{minimal}
 use Rattle.hazard.proofs.Promise.{promise-refused, promise-written}
 use Rattle.cube.specs.Entry.{requiredIn, privilegedIn}
 use Rattle.cube.specs.PointSet.{inSet}
+use Rattle.problem.specs.declared.refusal.Refusal as codes
 use Rattle.problem.specs.Store.{StoredSets}
 use Rattle.problem.proofs.Checks.{refuse-yes, refuse-no}
-use Rattle.choice.specs.Network.{cubeIn}
-use Rattle.choice.proofs.Keeping.{entry-of}
 use Rattle.minimiser.specs.Select.{Selected}
-use Rattle.minimiser.specs.Answer.{blockingOf, Answered}
+use Rattle.minimiser.specs.Answer.{minimisedOf, blockingOf, Answered}
+use Rattle.minimiser.specs.Choose.{Choice}
+use Rattle.minimiser.specs.declared.network.Minimised as code
+use Rattle.minimiser.specs.declared.network.Minimised.the-variants as variants
 
--- Required cubes that do not block grow to dhf-implicants.
-module _ (n : ℕ) (off privileged required : List ℕ) where
-  pub all-grown : blockingOf n (inSet off) (map (privilegedIn n) privileged) (map (requiredIn n) required) ≡ none
-      → (k : ℕ) → k < length required → Grown (grow n (inSet off) (map (privilegedIn n) privileged) (cubeIn n (getD required k 0)))
-  all-grown e k l =
-      block-none n (inSet off) (map (privilegedIn n) privileged) (requiredIn n (getD required k 0)) .0
-      (firstOf-map (blockCheck n (inSet off) (map (privilegedIn n) privileged)) (map (requiredIn n) required) .0 e (requiredIn n (getD required k 0)) (Memᴰ·map (requiredIn n) (entry-of required k l)))
-
+-- The answer, of each way to end.
 module _ (n : ℕ) (off : ℕ → Bool) (vs : List sets.Privileged) (rs : List sets.Required) where
-  pub answered-refused : {q : Refusal} (before : List ℕ) → some q ≡ blockingOf n off vs rs → Answered n off vs rs before before (declined q)
+  pub answered-refused : {q : Refusal} (before : List ℕ) → blockingOf n off vs rs ≡ some q → Answered n off vs rs before before (declined q)
   answered-refused {q} before e =
-      record { refused = λ p h. (ap declined (Option·some-injective q p (e ∙ h)), refl); network = λ h. none-some (sym h ∙ sym e) }
+      record { refused = λ p h. (ap declined (Option·some-injective q p (sym e ∙ h)), refl); network = λ h. none-some (sym h ∙ e) }
 
   pub answered-written : {before after : List ℕ} {k : ℕ} → blockingOf n off vs rs ≡ none → Selected n off vs rs before after k → Answered n off vs rs before after (written k)
   answered-written {k = k} e s = record { refused = λ p h. none-some (sym e ∙ h); network = λ h. (k, refl, s) }
 
+-- The choice's refusal is the answer.
+pub choice-refused : (n : ℕ) (off privileged required firsts products before : List ℕ) {r : code.Minimised} {q : codes.Refusal} → Choice n off privileged required firsts products r → r ≡ variants.Refused q
+    → Answered n (inSet off) (map (privilegedIn n) privileged) (map (requiredIn n) required) before before (minimisedOf r)
+choice-refused n off privileged required firsts products before h e =
+    rw e (answered-refused n (inSet off) (map (privilegedIn n) privileged) (map (requiredIn n) required) before (subst (Choice n off privileged required firsts products) e h))
+
 -- The stored sets are the problem's.
 module _ {n : ℕ} {f ts off vs rs : List ℕ} {p r : ℕ} (s : StoredSets n f ts off vs rs p r) where
-  required-length : length (take r rs) ≡ length (sets.required n f ts)
+  pub required-length : length (take r rs) ≡ length (sets.required n f ts)
   required-length = sym (length-map (take r rs) (requiredIn n)) ∙ ap (λ (l : List sets.Required). length l) (s .required·)
 
   pub required-fits : {b : ℕ} → length (sets.required n f ts) ≤ b → length (take r rs) ≤ b

@@ -1,4 +1,6 @@
 pub mod Products
+pub mod Choices
 pub mod Writing
 pub mod Selecting
+pub mod Rooms
 pub mod Answering

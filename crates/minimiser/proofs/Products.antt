@@ -6,12 +6,12 @@ use Prim.Native.Nat.{ℕ, zero, suc, _/_, _%_, _≤_}
 use native.Mathlib.Omega.{arith}
 use lib.Dec.{T, eqb}
 use lib.Pow.{pow-pos}
-use Rattle.hazard.specs.Cube.{Cube, inside, supercube}
+use Rattle.hazard.specs.Cube.{Cube, inside}
 use Rattle.hazard.specs.Sets.{Privileged}
 use Rattle.hazard.specs.Implicant.{dhfImplicant, DhfPrime}
-use Rattle.hazard.specs.Growth.{Growth, Legal, Blocked, Grown, grow}
-use Rattle.hazard.specs.Expansion.{grownOr, expand, absorb}
-use Rattle.hazard.proofs.Cube.{Digits, nil, cons, Inside, →inside, inside→, inside-refl, inside-trans, supercube-self}
+use Rattle.hazard.specs.Growth.{Legal, grow}
+use Rattle.hazard.specs.Expansion.{expand, absorb}
+use Rattle.hazard.proofs.Cube.{Digits, nil, cons, Inside, →inside, inside→, inside-refl, inside-trans}
 use Rattle.hazard.proofs.Implicant.{Dhf, Wide, dhf-is, prime-is}
 use Rattle.hazard.proofs.Growth.{Ends, legal, grow-ends}
 use Rattle.hazard.proofs.Expansion.{absorb-is, expand-prime, expand-around}
@@ -20,8 +20,11 @@ use Rattle.cube.specs.Mask.{digit, digitsOf, cubeOf, Clean, Stands}
 use Rattle.cube.specs.Entry.{privilegedIn, Packed}
 use Rattle.cube.specs.PointSet.{inSet}
 use Rattle.cube.proofs.Word.{packed-is, packed-clean}
+use Rattle.expand.specs.declared.growth.Grown as code
+use Rattle.expand.specs.declared.growth.Grown.the-variants as variants
+use Rattle.expand.specs.Answer.{grownOf, LegalClean, Grows}
 use Rattle.choice.specs.Network.{cubeIn}
-use Rattle.minimiser.specs.Product.{Over, ProductFor}
+use Rattle.minimiser.specs.Product.{Over, PrimeOver}
 use Rattle.minimiser.specs.Choose.{PrimeWord}
 
 -- Masks always stand for a cube of n inputs.
@@ -40,10 +43,10 @@ pub words-wide : (n : ℕ) (ws : List ℕ) → Wide n (map (privilegedIn n) ws)
 words-wide n ws v m = let (w, u, e) = Memᴰ·of-map (privilegedIn n) ws m in subst (λ (x : Privileged). Digits n (x .cube)) e (masks-digits n _ _)
 
 module _ (n : ℕ) (off privileged : List ℕ) where
-  abbrev vs : List Privileged
+  abbrev pub vs : List Privileged
   vs = map (privilegedIn n) privileged
 
-  wide : Wide n vs
+  pub wide : Wide n vs
   wide = words-wide n privileged
 
   -- The test and its meaning, of masks.
@@ -62,42 +65,46 @@ module _ (n : ℕ) (off privileged : List ℕ) where
       both : T (dhfImplicant n (inSet off) vs (cubeOf n c)) → Dhf n (inSet off) vs (cubeOf n r) × Inside (cubeOf n c) (cubeOf n r)
       both t = rw (s .is) (absorb-is n (inSet off) vs wide (dhf→ c t) (masks-digits n (d .care) (d .value)))
 
-  -- The cube p is a dhf-implicant around the required cube of the word w.
-  pub record Stage (w : ℕ) (p : masks.Cube) : Type 0 where
+  -- The cube p is a dhf-implicant around the cube c.
+  pub record Stage (c : Cube) (p : masks.Cube) : Type 0 where
     pub fits : Clean n p
     pub dhf : T (dhfImplicant n (inSet off) vs (cubeOf n p))
-    pub around : T (inside (cubeIn n w) (cubeOf n p))
+    pub around : T (inside c (cubeOf n p))
 
-  -- It begins with the growth of the required cube.
-  pub stage-start : {w : ℕ} (c : masks.Cube) {r : masks.Cube} → cubeOf n c ≡ cubeIn n w → Grown (grow n (inSet off) vs (cubeIn n w)) → Stands n r (absorb n (inSet off) vs (cubeOf n c) (cubeOf n c)) → Stage w r
-  stage-start {w} c {r} e g s =
-      let q : cubeOf n r ≡ grownOr (cubeIn n w) (grow n (inSet off) vs (cubeIn n w)) = s .is ∙ rw (supercube-self (cubeOf n c), e) in
-      let h = grown (cubeIn n w) (masks-digits n _ _) g in
-      record { fits = s .fits; dhf = →dhf r (rw q (h .0)); around = rw q (→inside (h .1)) }
+  -- It begins with a cube that growth ended legal with.
+  pub stage-legal : {c : Cube} {g : code.Grown} {d : masks.Cube} {s : ℕ} → Digits n c → Grows n off privileged c g → g ≡ variants.Legal d s → Stage c d
+  stage-legal {c} {g} {d} {s} k h e =
+      let i : Legal (cubeOf n d) s ≡ grow n (inSet off) vs c = sym (ap (grownOf n) e) ∙ h .is in
+      let t = ended (subst (Ends n (inSet off) vs c) (sym i) (grow-ends n (inSet off) vs wide k)) in
+      record { fits = subst (LegalClean n) e (h .clean); dhf = →dhf d (t .0); around = →inside (t .1) }
     where
-      grown : (d : Cube) → Digits n d → Grown (grow n (inSet off) vs d) → Dhf n (inSet off) vs (grownOr d (grow n (inSet off) vs d)) × Inside d (grownOr d (grow n (inSet off) vs d))
-      grown d k = go (grow n (inSet off) vs d) (grow-ends n (inSet off) vs wide k)
-        where
-          go : (x : Growth) → Ends n (inSet off) vs d x → Grown x → Dhf n (inSet off) vs (grownOr d x) × Inside d (grownOr d x)
-          go (Legal y z) (legal a b m) u = (a, b)
-          go (Blocked y z) a u = absurd u
+      ended : Ends n (inSet off) vs c (Legal (cubeOf n d) s) → Dhf n (inSet off) vs (cubeOf n d) × Inside c (cubeOf n d)
+      ended (legal a b m) = (a, b)
 
-  pub stage-step : {w : ℕ} {c r : masks.Cube} → Stage w c → Over n off privileged c r → Stage w r
-  stage-step {w} {c} {r} s o =
-      record { fits = o .fits; dhf = o .dhf (s .dhf); around = →inside (inside-trans (inside→ (cubeIn n w) (cubeOf n c) (s .around)) (inside→ (cubeOf n c) (cubeOf n r) (o .around (s .dhf)))) }
+  pub stage-start : {c : masks.Cube} → Clean n c → T (dhfImplicant n (inSet off) vs (cubeOf n c)) → Stage (cubeOf n c) c
+  stage-start {c} h t = record { fits = h; dhf = t; around = →inside (inside-refl (cubeOf n c)) }
 
-  pub stage-end : {w : ℕ} {c r : masks.Cube} → Stage w c → Stands n r (expand n (inSet off) vs (cubeOf n c)) → ProductFor n off privileged w r
-  stage-end {w} {c} {r} s t =
-      let d = dhf→ c (s .dhf) in
+  pub stage-step : {c : Cube} {p r : masks.Cube} → Stage c p → Over n off privileged p r → Stage c r
+  stage-step {c} {p} {r} s o =
+      record { fits = o .fits; dhf = o .dhf (s .dhf); around = →inside (inside-trans (inside→ c (cubeOf n p) (s .around)) (inside→ (cubeOf n p) (cubeOf n r) (o .around (s .dhf)))) }
+
+  pub stage-end : {c : Cube} {p r : masks.Cube} → Stage c p → Stands n r (expand n (inSet off) vs (cubeOf n p)) → PrimeOver n off privileged c r
+  stage-end {c} {p} {r} s t =
+      let d = dhf→ p (s .dhf) in
       record {
         fits = t .fits;
         prime = prime-is n (inSet off) vs wide (cubeOf n r) .1 (rw (t .is) (expand-prime n (inSet off) vs wide d));
-        around = →inside (inside-trans (inside→ (cubeIn n w) (cubeOf n c) (s .around)) (rw (t .is) (expand-around n (inSet off) vs wide d)));
+        around = →inside (inside-trans (inside→ c (cubeOf n p) (s .around)) (rw (t .is) (expand-around n (inSet off) vs wide d)));
       }
 
+  -- A dhf-prime around a stage is one around the stage's cube.
+  pub stage-prime : {c : Cube} {p r : masks.Cube} → Stage c p → PrimeOver n off privileged (cubeOf n p) r → PrimeOver n off privileged c r
+  stage-prime {c} {p} {r} s h =
+      record { fits = h .fits; prime = h .prime; around = →inside (inside-trans (inside→ c (cubeOf n p) (s .around)) (inside→ (cubeOf n p) (cubeOf n r) (h .around))) }
+
   -- The product packed into a word.
-  pub product-word : {v w : ℕ} {r : masks.Cube} → ProductFor n off privileged v r → Packed w 0 0 (r .care) (r .value) → PrimeWord n off privileged w × T (inside (cubeIn n v) (cubeIn n w))
-  product-word {v} {w} {r} h p =
+  pub product-word : (v : ℕ) {w t : ℕ} {r : masks.Cube} → PrimeOver n off privileged (cubeIn n v) r → Packed w t 0 (r .care) (r .value) → PrimeWord n off privileged w × T (inside (cubeIn n v) (cubeIn n w))
+  product-word v {w} {r} h p =
       let s : Stands n r (cubeOf n r) = record { fits = h .fits; is = refl } in
       let e : cubeIn n w ≡ cubeOf n r = packed-is p s in
       (record { prime = rw e (h .prime); clean = packed-clean p s (pow-pos n) }, rw e (h .around))

@@ -4,7 +4,7 @@ use mathlib.Core.List.{List, _++_, map, List·Memᴰ, Memᴰ·of-map}
 use Prim.Native.Nat.{ℕ, _+_, _*_, _-_, _≤_, _<_}
 use native.Mathlib.Nat.{sub-zero, le-refl, le-trans, mul-le-mul-right}
 use native.Mathlib.Omega.{arith}
-use lib.ListN.{length, getD, take, drop, replicate, length-replicate, getD-replicate, length-drop, length-map}
+use lib.ListN.{length, getD, take, drop, length-drop, length-append, length-map}
 use lib.Seq.{drop-append-le, take-at, getD-take, getD-drop, length-take-le}
 use Rattle.hazard.specs.Cube.{Cube}
 use Rattle.hazard.specs.Implicant.{DhfPrime}
@@ -22,7 +22,7 @@ module _ {n : ℕ} {off privileged required firsts products : List ℕ} {m : ℕ
   pub chosen-small : (i : ℕ) → Small n (getD (take m products) i 0)
   chosen-small i = taken-clean n m products (λ k l. chosen .good k l .clean) i .small
 
-  chosen-few : m ≤ length required
+  pub chosen-few : m ≤ length required
   chosen-few = omega (arith, chosen .noted .few, length-take-le m products (chosen .low))
 
   -- The part of the products from 0 to m is handed on.
@@ -32,6 +32,12 @@ module _ {n : ℕ} {off privileged required firsts products : List ℕ} {m : ℕ
 
     size : length after ≡ m
     size = kept .long ∙ length-take-le m products (chosen .low)
+
+    pub kept-low : r ≤ m
+    kept-low = omega (arith, kept .low, size)
+
+    pub kept-whole : (rest : List ℕ) → m ≤ length (after ++ rest)
+    kept-whole rest = omega (arith, length-append after rest, size)
 
     -- The kept products are read back from the whole array.
     kept-part : (rest : List ℕ) → take (m - r) (drop r (after ++ rest)) ≡ drop r after
@@ -67,10 +73,3 @@ module _ {n : ℕ} {off privileged required firsts products : List ℕ} {m : ℕ
           own = kept .own;
           few = omega (arith, length-drop r after, size, length-map (drop r after) (cubeIn n), length-map required (requiredIn n), chosen-few);
         }
-
--- The first k entries of an array that holds v throughout.
-pub room-length : (v k : ℕ) → k ≤ 2048 → length (take (k - 0) (replicate 2048 v)) ≡ k
-room-length v k l = length-take-le (k - 0) (replicate 2048 v) (omega (arith, l, length-replicate 2048 v)) ∙ sub-zero k
-
-pub room-entry : (v k : ℕ) → k ≤ 2048 → (i : ℕ) → i < k → getD (take (k - 0) (replicate 2048 v)) i 0 ≡ v
-room-entry v k l i h = getD-take (k - 0) (replicate 2048 v) i 0 (omega arith) ∙ getD-replicate 2048 i v 0 (omega arith)

@@ -1,20 +1,19 @@
 // The forward choice: products until every required cube lies in one.
 ghost use mathlib.Core.Path.{_≡_};
 ghost use Prim.Native.Nat.{ℕ, _≤_, _<_};
-ghost use mathlib.Core.List.{map};
 ghost use lib.ListN.{length, getD};
-ghost use Rattle.hazard.specs.Growth as spec;
-ghost use Rattle.cube.specs.Entry.{privilegedIn, CleanWord};
-ghost use Rattle.cube.specs.PointSet.{inSet};
+ghost use Rattle.cube.specs.Entry.{CleanWord};
 ghost use Rattle.expand.specs.Ready.{Ready};
-ghost use Rattle.choice.specs.Network.{cubeIn};
-ghost use Rattle.minimiser.specs.Choose.{Chosen};
+ghost use Rattle.minimiser.specs.Choose.{Choice};
+use crate::network::Minimised;
+use crate::product::Made;
 use crate::product::product_for;
 use choice::first::NONE;
 use choice::first::note;
 use cube::entry::pack;
 
-// For each required cube that no product chosen so far contains, the product for it is chosen.
+// For each required cube that no product chosen so far contains, the product for it is chosen. One that lies in a product cannot block,
+// so the first that blocks is found on the way.
 pub fn choose(
     n: usize,
     off: &[u64],
@@ -22,12 +21,11 @@ pub fn choose(
     required: &[u64],
     firsts: &mut [u16],
     products: &mut [u64],
-) -> usize
+) -> Minimised
     requires { ⌜ Ready n (now off) × (length (now required) ≤ 2048) × (length (now firsts) ≡ length (now required)) × (length (now required) ≤ length (now products)) ⌝ }
     requires { ⌜ ((k : ℕ) → CleanWord n (getD (now required) k 0)) ⌝ }
     requires { ⌜ ((k : ℕ) → k < length (now required) → getD (now firsts) k 0 ≡ 65535) ⌝ }
-    requires { ⌜ ((k : ℕ) → k < length (now required) → spec.Grown (spec.grow n (inSet (now off)) (map (privilegedIn n) (now privileged)) (cubeIn n (getD (now required) k 0)))) ⌝ }
-    ensures { λ r. ⌜ Chosen n (now (off .entry)) (now (privileged .entry)) (now (required .entry)) (now (firsts .exit)) (now (products .exit)) r ⌝ }
+    ensures { λ r. ⌜ Choice n (now (off .entry)) (now (privileged .entry)) (now (required .entry)) (now (firsts .exit)) (now (products .exit)) r ⌝ }
 {
     let mut m = 0;
     let mut i = 0;
@@ -35,11 +33,18 @@ pub fn choose(
         let r = i;
         i += 1;
         if firsts[r] == NONE {
-            let p = pack(0, 0, product_for(n, off, privileged, required, r));
-            products[m] = p;
-            note(n, required, firsts, p, m as u16);
-            m += 1;
+            let made = product_for(n, off, privileged, required, firsts, r);
+            match made {
+                Made::Blocked(q) => return Minimised::Refused(q),
+                Made::Product(c) => {
+                    // The word carries the place of the required cube that the product is for.
+                    let p = pack(r as u16, 0, c);
+                    products[m] = p;
+                    note(n, required, firsts, p, m as u16);
+                    m += 1;
+                }
+            }
         }
     }
-    m
+    Minimised::Products(m)
 }

@@ -16,8 +16,9 @@ pub fn minimise(n: usize, table: &[u8], transitions: &[u16], cover: &mut [u8]) -
     if let Checked::Refused(r) = check(n, table, transitions) {
         return Minimised::Refused(r);
     }
-    if cover.len() < n * count_required(n, table, transitions) {
+    let count = count_required(n, table, transitions);
+    if cover.len() < n * count {
         return Minimised::Refused(refuse(9, 0, 0));
     }
-    network_into(n, table, transitions, cover)
+    network_into(n, table, transitions, count, cover)
 }

@@ -1,26 +1,37 @@
 // The product that is chosen for a required cube.
-ghost use Prim.Native.Nat.{ℕ, _≤_, _<_};
+ghost use mathlib.Core.Path.{_≡_};
 ghost use mathlib.Core.List.{map};
+ghost use Prim.Native.Nat.{ℕ, _≤_, _<_};
+ghost use lib.Dec.{T};
 ghost use lib.ListN.{length, getD};
-ghost use Rattle.hazard.specs.Growth as spec;
-ghost use Rattle.cube.specs.Mask.{Clean};
+ghost use Rattle.hazard.specs.Implicant.{dhfImplicant};
+ghost use Rattle.cube.specs.Mask.{cubeOf, Clean};
 ghost use Rattle.cube.specs.Entry.{privilegedIn, CleanWord};
 ghost use Rattle.cube.specs.PointSet.{inSet};
 ghost use Rattle.expand.specs.Ready.{Ready};
-ghost use Rattle.choice.specs.Network.{cubeIn};
-ghost use Rattle.minimiser.specs.Product.{Over, ProductFor};
+ghost use Rattle.minimiser.specs.Product.{Over, PrimeOver, MadeFor};
+use choice::first::NONE;
 use cube::entry::cube_in;
 use cube::mask::Cube;
 use cube::mask::lies_inside;
+use expand::blocking::refusal_of;
+use expand::growth::Grown;
+use expand::growth::grow;
 use expand::prime::absorbed;
 use expand::prime::expanded;
+use problem::refusal::Refusal;
 
-// The cube grown over a further one, where that ends legal; nothing to do where it lies inside already.
-fn grown_over(n: usize, off: &[u64], privileged: &[u64], c: Cube, d: Cube) -> Cube
+// The cube grown over a further required cube, where that ends legal. A required cube that lies in a product already needs no other, so
+// it is not tried.
+fn grown_over(n: usize, off: &[u64], privileged: &[u64], c: Cube, w: u64, first: u16) -> Cube
     requires { ⌜ Ready n (now off) ⌝ }
     requires { ⌜ Clean n c ⌝ }
     ensures { λ r. ⌜ Over n (now (off .entry)) (now (privileged .entry)) c r ⌝ }
 {
+    if first != NONE {
+        return c;
+    }
+    let d = cube_in(w);
     if lies_inside(d, c) {
         return c;
     }
@@ -41,21 +52,54 @@ fn reach_of(i: usize, count: usize) -> usize
     i + REACH
 }
 
-// Supercube-dhf of required cube i, grown over the next required cubes where that stays legal, and expanded to a dhf-prime. The growth
-// over the others makes for fewer products; no promise rests on it.
-pub fn product_for(n: usize, off: &[u64], privileged: &[u64], required: &[u64], i: usize) -> Cube
-    requires { ⌜ Ready n (now off) × (i < length (now required)) ⌝ }
-    requires { ⌜ ((k : ℕ) → CleanWord n (getD (now required) k 0)) ⌝ }
-    requires { ⌜ spec.Grown (spec.grow n (inSet (now off)) (map (privilegedIn n) (now privileged)) (cubeIn n (getD (now required) i 0))) ⌝ }
-    ensures { λ r. ⌜ ProductFor n (now (off .entry)) (now (privileged .entry)) (getD (now (required .entry)) i 0) r ⌝ }
+// The dhf-implicant c grown over those required cubes after place i that lie in no product yet, where that stays legal, and expanded to
+// a dhf-prime. The growth over the others makes for fewer products; no promise rests on it.
+fn widened(
+    n: usize,
+    off: &[u64],
+    privileged: &[u64],
+    required: &[u64],
+    firsts: &[u16],
+    i: usize,
+    c: Cube,
+) -> Cube
+    requires { ⌜ Ready n (now off) × (i < length (now required)) × (length (now firsts) ≡ length (now required)) ⌝ }
+    requires { ⌜ Clean n c × T (dhfImplicant n (inSet (now off)) (map (privilegedIn n) (now privileged)) (cubeOf n c)) ⌝ }
+    ensures { λ r. ⌜ PrimeOver n (now (off .entry)) (now (privileged .entry)) (cubeOf n c) r ⌝ }
 {
-    let c = cube_in(required[i]);
-    let mut p = absorbed(n, off, privileged, c, c);
+    let mut p = c;
     let end = reach_of(i, required.len());
     let mut k = i + 1;
     while k < end {
-        p = grown_over(n, off, privileged, p, cube_in(required[k]));
+        p = grown_over(n, off, privileged, p, required[k], firsts[k]);
         k += 1;
     }
     expanded(n, off, privileged, p)
+}
+
+// What is made for a required cube: its product, or its refusal.
+pub enum Made {
+    Product(Cube),
+    Blocked(Refusal),
+}
+
+// Supercube-dhf of required cube i, widened; or refusal 10, where its growth ends blocked.
+pub fn product_for(
+    n: usize,
+    off: &[u64],
+    privileged: &[u64],
+    required: &[u64],
+    firsts: &[u16],
+    i: usize,
+) -> Made
+    requires { ⌜ Ready n (now off) × (i < length (now required)) × (length (now firsts) ≡ length (now required)) ⌝ }
+    requires { ⌜ ((k : ℕ) → CleanWord n (getD (now required) k 0)) ⌝ }
+    ensures { λ r. ⌜ MadeFor n (now (off .entry)) (now (privileged .entry)) (getD (now (required .entry)) i 0) r ⌝ }
+{
+    let w = required[i];
+    let grown = grow(n, off, privileged, cube_in(w));
+    match grown {
+        Grown::Legal(c, _) => Made::Product(widened(n, off, privileged, required, firsts, i, c)),
+        Grown::Blocked(z, s) => Made::Blocked(refusal_of(w, z, s)),
+    }
 }

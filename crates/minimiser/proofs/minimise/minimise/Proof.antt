@@ -51,7 +51,7 @@ network-into-requires c κs =
     let ok = passed (c .before .before .before .before .before .check .ensures) (c .before .before .before .enum-told .given .1) in
     let h = c .before .before .count-required in
     let l : a .n * h .result ≤ length (now (a .cover)) = omega arith in
-    (accepted-ready (a .n) (now (a .table)) (now (a .transitions)) ok, required-few (a .n) (now (a .table)) (now (a .transitions)) ok, room-enough (a .n) (now (a .table)) (now (a .transitions)) (now (a .cover)) ok (h .result) (h .ensures) l)
+    ((accepted-ready (a .n) (now (a .table)) (now (a .transitions)) ok, required-few (a .n) (now (a .table)) (now (a .transitions)) ok, room-enough (a .n) (now (a .table)) (now (a .transitions)) (now (a .cover)) ok (h .result) (h .ensures) l), h .ensures)
 
 same-length : tie.Need-same-length
 same-length c = search needs

@@ -1,89 +1,76 @@
-use mathlib.Core.Path.{_≡_, _∙_}
-use Prim.Native.Nat.{_-_}
-use native.Mathlib.Omega.{arith}
-use lib.ListN.{length, getD}
+use mathlib.Core.Path.{refl, sym, ap, _∙_, subst}
+use lib.ListN.{getD}
 use borrow.Author.Needs.{needs}
+use Rattle.hazard.specs.Cube.{Cube}
+use Rattle.hazard.specs.Minimal.{blockedBy}
+use Rattle.cube.specs.Entry.{requiredIn}
 use Rattle.cube.proofs.Word.{stands-in}
-use Rattle.minimiser.proofs.Products.{Stage, stage-start, stage-step, stage-end}
+use Rattle.expand.specs.declared.growth.Grown.{Grown}
+use Rattle.expand.specs.Answer.{grownOf, Grows}
+use Rattle.expand.proofs.Outcome.{checked}
+use Rattle.choice.specs.Network.{cubeIn}
+use Rattle.minimiser.proofs.Products.{masks-digits, stage-legal, stage-prime}
 use Rattle.minimiser.proofs.product.product_for.Statement.{statement}
 use Rattle.minimiser.proofs.product.product_for.Tie as tie
 
-abbrev Inv-loop : tie.InvT-loop
-Inv-loop n off privileged required i p₀ end k₀ p k = Stage n off privileged (getD required i 0) p
+mul-w : tie.Need-mul-w
+mul-w c = search needs
 
-abbrev μ-loop : tie.MeasureT-loop
-μ-loop n off privileged required i p₀ end k₀ p k = end - k
+shared-slice-read-w : tie.Need-shared-slice-read-w
+shared-slice-read-w c = search needs
 
-mul-cube-in : tie.Need-mul-cube-in Inv-loop μ-loop
-mul-cube-in c = search needs
-
-shared-slice-read-cube-in : tie.Need-shared-slice-read-cube-in Inv-loop μ-loop
-shared-slice-read-cube-in c = search needs
-
-cube-in-requires : tie.Need-cube-in-requires Inv-loop μ-loop
+cube-in-requires : tie.Need-cube-in-requires
 cube-in-requires c κs = search needs
 
-absorbed-requires : tie.Need-absorbed-requires Inv-loop μ-loop
-absorbed-requires c κs = let s = c .before .before .before .before .before in (s .pre .0 .0, stands-in (s .pre .1 .0 (s .args .i)) (c .cube-in .ensures) .fits)
+grow-requires : tie.Need-grow-requires
+grow-requires c κs = let s = c .before .before .before .before .before .before in (s .pre .0 .0, stands-in (s .pre .1 (s .args .i)) (c .cube-in .ensures) .fits)
 
-reach-of-requires : tie.Need-reach-of-requires Inv-loop μ-loop
-reach-of-requires c κs = search needs
-
-add-k : tie.Need-add-k Inv-loop μ-loop
-add-k c = search needs
-
-loop-holds : tie.Need-loop-holds Inv-loop μ-loop
-loop-holds c =
+-- The growth of the required cube.
+grows : (c : tie.After-grow)
+    → let a = c .before .before .before .before .before .before .before .args in Grows (a .n) (a .off .now) (a .privileged .now) (cubeIn (a .n) (getD (a .required .now) (a .i) 0)) (c .grow .result)
+grows c =
     let s = c .before .before .before .before .before .before .before in
     let w = getD (s .args .required .now) (s .args .i) 0 in
-    stage-start (s .args .n) (s .args .off .now) (s .args .privileged .now) (c .before .before .cube-in .result) (stands-in {w = w} (s .pre .1 .0 (s .args .i)) (c .before .before .cube-in .ensures) .is) (s .pre .1 .1) (c .before .absorbed .ensures)
+    subst (λ (q : Cube). Grows (s .args .n) (s .args .off .now) (s .args .privileged .now) q (c .grow .result)) (stands-in {w = w} (s .pre .1 (s .args .i)) (c .before .cube-in .ensures) .is) (c .grow .ensures)
 
-mul-cube-in-2 : tie.Need-mul-cube-in-2 Inv-loop μ-loop
-mul-cube-in-2 c = search needs
+enum-known-grown : tie.Need-enum-known-grown
+enum-known-grown c = search needs
 
-shared-slice-read-cube-in-2 : tie.Need-shared-slice-read-cube-in-2 Inv-loop μ-loop
-shared-slice-read-cube-in-2 c = search needs
+widened-requires : tie.Need-widened-requires
+widened-requires c κs =
+    let s = c .before .before .before .before .before .before .before .before .before .before in
+    let t = stage-legal (s .args .n) (s .args .off .now) (s .args .privileged .now) (masks-digits (s .args .n) _ _) (grows (c .before .before .before)) (c .before .grown .given .1) in
+    (s .pre .0, (t .fits, t .dhf))
 
-cube-in-requires-2 : tie.Need-cube-in-requires-2 Inv-loop μ-loop
-cube-in-requires-2 c κs = search needs
+enum-known-grown-2 : tie.Need-enum-known-grown-2
+enum-known-grown-2 c = search needs
 
-grown-over-requires : tie.Need-grown-over-requires Inv-loop μ-loop
-grown-over-requires c κs = (c .before .before .before .before .before .before .before .before .before .before .before .pre .0 .0, c .before .before .before .loop .inv .fits)
+refusal-of-requires : tie.Need-refusal-of-requires
+refusal-of-requires c κs = search needs
 
-add-k-2 : tie.Need-add-k-2 Inv-loop μ-loop
-add-k-2 c = search needs
+returns : tie.Need-returns
+returns c =
+    let a = c .before .before .before .before .before .before .before .before .before .before .before .args in
+    let t = stage-legal (a .n) (a .off .now) (a .privileged .now) (masks-digits (a .n) _ _) (grows (c .before .before .before .before)) (c .before .before .grown .given .1) in
+    stage-prime (a .n) (a .off .now) (a .privileged .now) t (c .widened .ensures)
 
-loop-less : tie.Need-loop-less Inv-loop μ-loop
-loop-less c = search needs
-
-loop-again : tie.Need-loop-again Inv-loop μ-loop
-loop-again c = let s = c .before .before .before .before .before .before .before .before .before .before .before .before in stage-step (s .args .n) (s .args .off .now) (s .args .privileged .now) (c .before .before .before .before .loop .inv) (c .grown-over .ensures)
-
-expanded-requires : tie.Need-expanded-requires Inv-loop μ-loop
-expanded-requires c κs = (c .before .before .before .before .before .before .before .before .before .pre .0 .0, c .before .loop .inv .fits)
-
-returns : tie.Need-returns Inv-loop μ-loop
-returns c = let s = c .before .before .before .before .before .before .before .before .before .before in stage-end (s .args .n) (s .args .off .now) (s .args .privileged .now) (c .before .before .loop .inv) (c .expanded .ensures)
+returns-2 : tie.Need-returns-2
+returns-2 c =
+    let a = c .before .before .before .before .before .before .before .before .before .before .before .args in
+    let r = requiredIn (a .n) (getD (a .required .now) (a .i) 0) in
+    sym (checked r (grows (c .before .before .before .before)) refl) ∙ ap (λ (g : Grown). blockedBy r (grownOf (a .n) g)) (c .before .before .grown2 .given .1) ∙ c .refusal-of .ensures (a .n)
 
 pub product-for-spec : {M : Type 1} → statement M
 product-for-spec =
     tie.close
     (tie.spec
-    Inv-loop
-    μ-loop
-    mul-cube-in
-    shared-slice-read-cube-in
+    mul-w
+    shared-slice-read-w
     cube-in-requires
-    absorbed-requires
-    reach-of-requires
-    add-k
-    loop-holds
-    mul-cube-in-2
-    shared-slice-read-cube-in-2
-    cube-in-requires-2
-    grown-over-requires
-    add-k-2
-    loop-less
-    loop-again
-    expanded-requires
-    returns)
+    grow-requires
+    enum-known-grown
+    widened-requires
+    enum-known-grown-2
+    refusal-of-requires
+    returns
+    returns-2)

@@ -1,0 +1,46 @@
+use mathlib.Core.Path.{refl}
+use native.Mathlib.Nat.{le-refl}
+use native.Mathlib.Omega.{arith}
+use borrow.Author.Needs.{needs}
+use Rattle.minimiser.proofs.Rooms.{room-of}
+use Rattle.minimiser.proofs.network.cover_few.Statement.{statement}
+use Rattle.minimiser.proofs.network.cover_few.Tie as tie
+
+slice-aggregate-cover-with : tie.Need-slice-aggregate-cover-with
+slice-aggregate-cover-with c = search needs
+
+slice-aggregate-cover-with-2 : tie.Need-slice-aggregate-cover-with-2
+slice-aggregate-cover-with-2 c = search needs
+
+slice-aggregate-cover-with-3 : tie.Need-slice-aggregate-cover-with-3
+slice-aggregate-cover-with-3 c = search needs
+
+slice-aggregate-cover-with-4 : tie.Need-slice-aggregate-cover-with-4
+slice-aggregate-cover-with-4 c = search needs
+
+slice-aggregate-cover-with-5 : tie.Need-slice-aggregate-cover-with-5
+slice-aggregate-cover-with-5 c = search needs
+
+cover-with-requires : tie.Need-cover-with-requires
+cover-with-requires c κs =
+    let s = c .before .before .before .before .before .before .before .before .before in
+    ((s .pre .0, omega (arith, s .pre .1), s .pre .2), (refl, le-refl 64, room-of 64 (s .pre .1)))
+
+same-length : tie.Need-same-length
+same-length c = search needs
+
+returns : tie.Need-returns
+returns c = search needs
+
+pub cover-few-spec : {M : Type 1} → statement M
+cover-few-spec =
+    tie.close
+    (tie.spec
+    slice-aggregate-cover-with
+    slice-aggregate-cover-with-2
+    slice-aggregate-cover-with-3
+    slice-aggregate-cover-with-4
+    slice-aggregate-cover-with-5
+    cover-with-requires
+    same-length
+    returns)
