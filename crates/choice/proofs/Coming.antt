@@ -77,3 +77,17 @@ module _ (n : ℕ) (columns : List ℕ) (c : masks.Cube) (before after left rest
       go i (no l) =
           let e : ltb i (length after) ≡ false = isnt (ltb i (length after)) (λ t. let m = ltb→lt i (length after) t in omega (arith, m, l, long, size)) in
           past rest i (omega (arith, l, same)) ∙ rw e
+
+-- At first no required cube has a product noted.
+pub unnoted-start : (firsts left : List ℕ) (count : ℕ) → length firsts ≡ count → length firsts ≤ 64 * length left → ((k : ℕ) → k < count → getD firsts k 0 ≡ 65535)
+    → ((k : ℕ) → k < 64 * length left → inSet left k ≡ ltb k count) → Unnoted firsts left
+unnoted-start firsts left count e size h w i = elim (decLt i (length firsts)) [
+  | yes l ↦ w i (omega (arith, l, size)) ∙ ap (ltb i) (sym e) ∙ rw (is {b = ltb i (length firsts)} (lt→ltb i (length firsts) l)) (ap (λ (v : ℕ). eqb v 65535) (sym (h i (omega (arith, l, e)))))
+  | no l ↦ none l ∙ sym (ap (λ (b : Bool). b && eqb (getD firsts i 0) 65535) (isnt (ltb i (length firsts)) (λ t. l (ltb→lt i (length firsts) t))))
+]
+  where
+    none : ¬ (i < length firsts) → inSet left i ≡ false
+    none l = elim (decLt i (64 * length left)) [
+      | yes m ↦ w i m ∙ isnt (ltb i count) (λ t. l (omega (arith, ltb→lt i count t, e)))
+      | no m ↦ past left i (omega (arith, m))
+    ]

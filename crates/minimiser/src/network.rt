@@ -5,10 +5,12 @@ ghost use lib.ListN.{length};
 ghost use Rattle.hazard.specs.Sets as sets;
 ghost use Rattle.hazard.specs.Transition as transition;
 ghost use Rattle.problem.specs.Ready.{Ready};
-ghost use Rattle.minimiser.specs.Room.{Room};
+ghost use Rattle.minimiser.specs.Room.{Room, Columns};
 ghost use Rattle.minimiser.specs.Answer.{minimisedOf, Answered};
+use blocks::fill::blocks_into;
 use crate::select::select;
 use choice::first::NONE;
+use columns::relation::Relation;
 use problem::refusal::Refusal;
 use problem::sets::sets_into;
 
@@ -26,22 +28,30 @@ fn cover_with(
     off: &mut [u64],
     privileged: &mut [u64],
     required: &mut [u64],
+    columns: &mut [u64],
+    left: &mut [u64],
+    taken: &mut [u64],
     firsts: &mut [u16],
     products: &mut [u64],
     cover: &mut [u8],
 ) -> Minimised
     requires { ⌜ Ready n (now table) (now transitions) × (length (sets.required n (now table) (now transitions)) ≤ 2048) × (length (sets.required n (now table) (now transitions)) * n ≤ length (now cover)) ⌝ }
-    requires { ⌜ (length (now off) ≡ 16) × (64 ≤ length (now privileged)) × Room (length (sets.required n (now table) (now transitions))) (now required) (now firsts) (now products) ⌝ }
+    requires { ⌜ (length (now off) ≡ 16) × (64 ≤ length (now privileged)) × Room (length (sets.required n (now table) (now transitions))) (now required) (now firsts) (now products) × Columns (length (sets.required n (now table) (now transitions))) (now columns) (now left) (now taken) ⌝ }
     ensures { λ r. ⌜ Answered n (transition.off (now (table .entry))) (sets.privileged n (now (table .entry)) (now (transitions .entry))) (sets.required n (now (table .entry)) (now (transitions .entry))) (now (cover .entry)) (now (cover .exit)) (minimisedOf r) ⌝ }
 {
     let s = sets_into(n, table, transitions, off, privileged, required);
     let p = s.privileged;
     let r = s.required;
+    let b = (r + 63) / 64;
+    blocks_into(Relation::Inside, n, &required[0..r], columns);
     select(
         n,
         off,
         &privileged[0..p],
         &required[0..r],
+        columns,
+        &mut left[0..b],
+        &mut taken[0..b],
         &mut firsts[0..r],
         products,
         cover,
@@ -56,6 +66,9 @@ fn cover_few(n: usize, table: &[u8], transitions: &[u16], cover: &mut [u8]) -> M
     let mut off = [0u64; 16];
     let mut privileged = [0u64; 64];
     let mut required = [0u64; 64];
+    let mut columns = [0u64; 960];
+    let mut left = [0u64; 1];
+    let mut taken = [0u64; 1];
     let mut firsts = [NONE; 64];
     let mut products = [0u64; 64];
     cover_with(
@@ -65,6 +78,9 @@ fn cover_few(n: usize, table: &[u8], transitions: &[u16], cover: &mut [u8]) -> M
         &mut off,
         &mut privileged,
         &mut required,
+        &mut columns,
+        &mut left,
+        &mut taken,
         &mut firsts,
         &mut products,
         cover,
@@ -79,6 +95,9 @@ fn cover_many(n: usize, table: &[u8], transitions: &[u16], cover: &mut [u8]) -> 
     let mut off = [0u64; 16];
     let mut privileged = [0u64; 64];
     let mut required = [0u64; 2048];
+    let mut columns = [0u64; 960];
+    let mut left = [0u64; 32];
+    let mut taken = [0u64; 32];
     let mut firsts = [NONE; 2048];
     let mut products = [0u64; 2048];
     cover_with(
@@ -88,6 +107,9 @@ fn cover_many(n: usize, table: &[u8], transitions: &[u16], cover: &mut [u8]) -> 
         &mut off,
         &mut privileged,
         &mut required,
+        &mut columns,
+        &mut left,
+        &mut taken,
         &mut firsts,
         &mut products,
         cover,

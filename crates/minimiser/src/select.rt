@@ -6,6 +6,7 @@ ghost use lib.ListN.{length, getD};
 ghost use Rattle.cube.specs.Entry.{requiredIn, privilegedIn, CleanWord};
 ghost use Rattle.cube.specs.PointSet.{inSet};
 ghost use Rattle.expand.specs.Ready.{Ready};
+ghost use Rattle.choice.specs.Rows.{Inside};
 ghost use Rattle.minimiser.specs.Answer.{minimisedOf, Answered};
 use crate::choose::choose;
 use crate::network::Minimised;
@@ -18,20 +19,34 @@ pub fn select(
     off: &[u64],
     privileged: &[u64],
     required: &[u64],
+    columns: &[u64],
+    left: &mut [u64],
+    taken: &mut [u64],
     firsts: &mut [u16],
     products: &mut [u64],
     cover: &mut [u8],
 ) -> Minimised
     requires { ⌜ Ready n (now off) × (length (now required) ≤ 2048) × (length (now firsts) ≡ length (now required)) × (length (now required) ≤ length (now products)) × (length (now required) * n ≤ length (now cover)) ⌝ }
+    requires { ⌜ Inside n (now required) (now columns) × (length (now left) ≤ 32) × (length (now required) ≤ 64 * length (now left)) × (length (now taken) ≡ length (now left)) ⌝ }
     requires { ⌜ ((k : ℕ) → CleanWord n (getD (now required) k 0)) ⌝ }
     requires { ⌜ ((k : ℕ) → k < length (now required) → getD (now firsts) k 0 ≡ 65535) ⌝ }
     ensures { λ r. ⌜ Answered n (inSet (now (off .entry))) (map (privilegedIn n) (now (privileged .entry))) (map (requiredIn n) (now (required .entry))) (now (cover .entry)) (now (cover .exit)) (minimisedOf r) ⌝ }
 {
-    let chosen = choose(n, off, privileged, required, firsts, products);
+    let chosen = choose(
+        n, off, privileged, required, columns, left, taken, firsts, products,
+    );
     let Minimised::Products(m) = chosen else {
         return chosen;
     };
-    let kept = kept_from(n, required, firsts, &mut products[0..m]);
+    let kept = kept_from(
+        n,
+        required,
+        columns,
+        firsts,
+        &mut products[0..m],
+        left,
+        taken,
+    );
     write_network(n, &products[kept..m], cover);
     Minimised::Products(m - kept)
 }
