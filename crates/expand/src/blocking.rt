@@ -9,6 +9,7 @@ ghost use Rattle.cube.specs.Entry.{requiredIn, privilegedIn, CleanWord};
 ghost use Rattle.cube.specs.PointSet.{inSet};
 ghost use Rattle.problem.specs.Answer.{checkedOf};
 ghost use Rattle.expand.specs.Ready.{Ready};
+ghost use Rattle.expand.specs.Columns.{Columns};
 ghost use Rattle.expand.specs.Answer.{grownOf};
 use crate::growth::Grown;
 use crate::growth::grow;
@@ -36,15 +37,22 @@ fn refusal_of(w: u64, grown: Grown) -> Checked
 }
 
 // Refusal 10 for the first required cube whose growth ends blocked.
-pub fn first_blocking(n: usize, off: &[u64], privileged: &[u64], required: &[u64]) -> Checked
+pub fn first_blocking(
+    n: usize,
+    off: &[u64],
+    privileged: &[u64],
+    columns: &[u64],
+    required: &[u64],
+) -> Checked
     requires { ⌜ Ready n (now off) ⌝ }
+    requires { ⌜ Columns n (now privileged) (now columns) ⌝ }
     requires { ⌜ ((i : ℕ) → CleanWord n (getD (now required) i 0)) ⌝ }
     ensures { λ r. ⌜ checkedOf r ≡ firstOf (map (blockCheck n (inSet (now (off .entry))) (map (privilegedIn n) (now (privileged .entry)))) (map (requiredIn n) (now (required .entry)))) ⌝ }
 {
     let mut k = 0;
     while k < required.len() {
         let w = required[k];
-        let grown = grow(n, off, privileged, cube_in(w));
+        let grown = grow(n, off, privileged, columns, cube_in(w));
         let Grown::Legal(..) = grown else {
             return refusal_of(w, grown);
         };

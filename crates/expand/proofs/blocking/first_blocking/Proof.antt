@@ -17,10 +17,10 @@ use Rattle.expand.proofs.blocking.first_blocking.Statement.{statement}
 use Rattle.expand.proofs.blocking.first_blocking.Tie as tie
 
 abbrev Inv-loop : tie.InvT-loop
-Inv-loop n off privileged required k₀ k = Left (λ l. firstOf (map (blockCheck n (inSet off) (map (privilegedIn n) privileged)) (map (requiredIn n) l))) required k
+Inv-loop n off privileged columns required k₀ k = Left (λ l. firstOf (map (blockCheck n (inSet off) (map (privilegedIn n) privileged)) (map (requiredIn n) l))) required k
 
 abbrev μ-loop : tie.MeasureT-loop
-μ-loop n off privileged required k₀ k = length required - k
+μ-loop n off privileged columns required k₀ k = length required - k
 
 loop-holds : tie.Need-loop-holds Inv-loop μ-loop
 loop-holds c = left-start
@@ -35,17 +35,17 @@ cube-in-requires : tie.Need-cube-in-requires Inv-loop μ-loop
 cube-in-requires c κs = search needs
 
 grow-requires : tie.Need-grow-requires Inv-loop μ-loop
-grow-requires c κs = let s = c .before .before .before .before .before .before .before in (s .pre .0, stands-in (s .pre .1 (c .before .before .before .loop .k)) (c .cube-in .ensures) .fits)
+grow-requires c κs = let s = c .before .before .before .before .before .before .before .before in (s .pre .0, (s .pre .1 .0, stands-in (s .pre .1 .1 (c .before .before .before .loop .k)) (c .cube-in .ensures) .fits))
 
 -- What the growth says is what the check says.
 check-is : (c : tie.After-grow Inv-loop μ-loop)
-    → let a = c .before .before .before .before .before .before .before .before .args in
+    → let a = c .before .before .before .before .before .before .before .before .before .args in
     let r = requiredIn (a .n) (getD (a .required .now) (c .before .before .before .before .loop .k) 0) in
     blockedBy r (grownOf (a .n) (c .grow .result)) ≡ blockCheck (a .n) (inSet (a .off .now)) (map (privilegedIn (a .n)) (a .privileged .now)) r
 check-is c =
-    let s = c .before .before .before .before .before .before .before .before in
+    let s = c .before .before .before .before .before .before .before .before .before in
     let w = getD (s .args .required .now) (c .before .before .before .before .loop .k) 0 in
-    checked (requiredIn (s .args .n) w) (c .grow .ensures) (stands-in {w = w} (s .pre .1 (c .before .before .before .before .loop .k)) (c .before .cube-in .ensures) .is)
+    checked (requiredIn (s .args .n) w) (c .grow .ensures) (stands-in {w = w} (s .pre .1 .1 (c .before .before .before .before .loop .k)) (c .before .cube-in .ensures) .is)
 
 enum-told : tie.Need-enum-told Inv-loop μ-loop
 enum-told c = search needs
@@ -58,7 +58,7 @@ refusal-of-requires c κs = search needs
 
 returns : tie.Need-returns Inv-loop μ-loop
 returns c =
-    let a = c .before .before .before .before .before .before .before .before .before .before .before .args in
+    let a = c .before .before .before .before .before .before .before .before .before .before .before .before .args in
     let l = c .before .before .before .before .before .before .before .loop in
     let r = requiredIn (a .n) (getD (a .required .now) (l .k) 0) in
     let e = check-is (c .before .before .before) in
@@ -73,7 +73,7 @@ loop-less c = search needs
 
 loop-again : tie.Need-loop-again Inv-loop μ-loop
 loop-again c =
-    let a = c .before .before .before .before .before .before .before .before .before .before .args in
+    let a = c .before .before .before .before .before .before .before .before .before .before .before .args in
     let l = c .before .before .before .before .before .before .loop in
     let r = requiredIn (a .n) (getD (a .required .now) (l .k) 0) in
     check-miss (blockCheck (a .n) (inSet (a .off .now)) (map (privilegedIn (a .n)) (a .privileged .now))) (requiredIn (a .n)) (l .inv) (omega arith)
