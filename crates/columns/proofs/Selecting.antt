@@ -3,8 +3,8 @@ use mathlib.Core.Path.{_≡_, refl, sym, ap, ap₂, _∙_}
 use mathlib.Core.Logic.{_≢_}
 use mathlib.Core.Bool.{Bool, true, false, not, _&&_, _||_}
 use mathlib.Core.List.{List, [], _∷_, map}
-use mathlib.Core.Option.{Option, none, some}
-use Prim.Native.Nat.{ℕ, zero, suc, _+_, _-_, _/_, _%_, _^_, _≤_, _<_}
+use mathlib.Core.Option.{none, some}
+use Prim.Native.Nat.{ℕ, zero, suc, _-_, _/_, _%_, _^_, _≤_, _<_}
 use native.Mathlib.Nat.{zero-add, not-suc-le-zero, le-of-suc-le-suc, le-trans, lt-of-lt-of-le}
 use native.Mathlib.Decide.{decLt}
 use native.Mathlib.Omega.{arith}
@@ -18,7 +18,7 @@ use Rattle.hazard.specs.Cube.{Cube, bit, inside}
 use Rattle.hazard.specs.Cover.{covered}
 use Rattle.hazard.specs.Search.{find}
 use Rattle.cube.proofs.Bits.{bit-case2, and-again}
-use Rattle.cube.proofs.WordMask.{no-bit, and-bits, xor-bits, Lowest, lowest-bit}
+use Rattle.cube.proofs.WordMask.{no-bit, and-bits, xor-bits, lowest-bit}
 use Rattle.columns.specs.Table.{Rows}
 use Rattle.columns.proofs.Words.{ones-bit}
 
