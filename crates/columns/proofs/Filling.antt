@@ -1,14 +1,13 @@
 -- A table, filled input by input.
-use mathlib.Core.Path.{_≡_, sym, ap, _∙_, subst⁻¹}
+use mathlib.Core.Path.{_≡_, ap, _∙_, subst⁻¹}
 use mathlib.Core.Logic.{_≢_}
-use mathlib.Core.Bool.{Bool}
-use mathlib.Core.List.{List}
+use mathlib.Core.List.{List, _++_}
 use Prim.Native.Nat.{ℕ, zero, suc, _+_, _*_, _≤_, _<_}
 use native.Mathlib.Nat.{add-zero}
 use native.Mathlib.Decide.{ℕ-discrete}
 use native.Mathlib.Omega.{arith}
 use lib.Dec.{eqb}
-use lib.ListN.{length, getD, set, length-set}
+use lib.ListN.{length, getD, set, length-set, List·getD-append}
 use lib.Seq.{getD-set-same, getD-set-other}
 use Rattle.hazard.specs.Cube.{bit}
 use Rattle.columns.specs.Relation.{allows}
@@ -72,3 +71,10 @@ table-step {rel} {rows} {out} {i} {w} t a room = record { is = λ j d k h m l. a
     at j d k h m l (no e) =
         ap (λ (y : ℕ). eqb (bit y k) 1) (others out i (w .zero) (w .one) (w .absent) (3 * j + d) (λ q. e (omega arith)) (λ q. e (omega arith)) (λ q. e (omega arith)))
         ∙ t .is j d k (omega arith) m l
+
+-- Words behind a table change nothing.
+pub table-append : {rel : Relation} {n : ℕ} {rows table : List ℕ} (more : List ℕ) → Table rel n rows table → 3 * n ≤ length table → Table rel n rows (table ++ more)
+table-append {table} more t l =
+    record {
+      is = λ i d k h m g. ap (λ (y : ℕ). eqb (bit y k) 1) (List·getD-append table more 0 (3 * i + d) (omega arith)) ∙ t .is i d k h m g;
+    }

@@ -1,14 +1,14 @@
 -- The common rows of one word for each input.
 use mathlib.Core.Path.{_≡_, refl, sym, ap, ap₂, _∙_}
 use mathlib.Core.Bool.{Bool, true, false, _&&_, _||_}
-use mathlib.Core.List.{List, [], _∷_}
+use mathlib.Core.List.{List}
 use Prim.Native.Nat.{ℕ, zero, suc, _+_, _*_, _/_, _%_, _^_, _≤_, _<_}
 use native.Mathlib.Nat.{le-refl, le-trans}
 use native.Mathlib.Numerals.{add-one}
 use native.Mathlib.Omega.{arith}
 use lib.Dec.{eqb}
 use lib.Bits.{bitAnd, and-le-l}
-use lib.ListN.{length, getD}
+use lib.ListN.{getD}
 use Rattle.hazard.specs.Cube.{bit, fits, has, meets, inside}
 use Rattle.hazard.proofs.Point.{bit-zero, bit-suc}
 use Rattle.cube.specs.Mask.{digit, digitsOf}

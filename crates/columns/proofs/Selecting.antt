@@ -3,12 +3,13 @@ use mathlib.Core.Path.{_≡_, refl, sym, ap, ap₂, _∙_}
 use mathlib.Core.Logic.{_≢_}
 use mathlib.Core.Bool.{Bool, true, false, not, _&&_, _||_}
 use mathlib.Core.List.{List, [], _∷_, map}
-use mathlib.Core.Option.{Option, none, some}
-use Prim.Native.Nat.{ℕ, zero, suc, _+_, _-_, _/_, _%_, _^_, _≤_, _<_}
-use native.Mathlib.Nat.{zero-add, not-suc-le-zero, le-of-suc-le-suc, lt-of-lt-of-le}
+use mathlib.Core.Option.{none, some}
+use Prim.Native.Nat.{ℕ, zero, suc, _-_, _/_, _%_, _^_, _≤_, _<_}
+use native.Mathlib.Nat.{zero-add, not-suc-le-zero, le-of-suc-le-suc, le-trans, lt-of-lt-of-le}
 use native.Mathlib.Decide.{decLt}
 use native.Mathlib.Omega.{arith}
 use lib.Arith.{lt-one}
+use lib.Bits.{bitAnd, bitXor, and-comm, xor-add-and}
 use lib.Count.{trailingZeros}
 use lib.Dec.{eqb}
 use lib.ListN.{length, getD}
@@ -16,7 +17,8 @@ use lib.Pow.{pow-pos, pow-mono, shr-lt}
 use Rattle.hazard.specs.Cube.{Cube, bit, inside}
 use Rattle.hazard.specs.Cover.{covered}
 use Rattle.hazard.specs.Search.{find}
-use Rattle.cube.proofs.WordMask.{no-bit, Lowest, lowest-bit}
+use Rattle.cube.proofs.Bits.{bit-case2, and-again}
+use Rattle.cube.proofs.WordMask.{no-bit, and-bits, xor-bits, lowest-bit}
 use Rattle.columns.specs.Table.{Rows}
 use Rattle.columns.proofs.Words.{ones-bit}
 
@@ -47,6 +49,29 @@ module _ {test : ℕ → Bool} {rows : List ℕ} {among r : ℕ} (s : Rows test 
         passes = sym (s .is z low) ∙ ap (λ (b : ℕ). eqb b 1) (v .set);
         earlier = λ j h. sym (s .is j (omega (arith, low))) ∙ ap (λ (b : ℕ). eqb b 1) (v .least j h);
       }
+
+-- The rows of one set that are not in another.
+less-le : (m h : ℕ) → bitXor m (bitAnd m h) ≤ m
+less-le m h =
+    let e : bitAnd m (bitAnd m h) ≡ bitAnd m h = and-comm m (bitAnd m h) ∙ ap (λ (x : ℕ). bitAnd x m) (and-comm m h) ∙ and-again h m ∙ and-comm h m in
+    omega (arith, e, xor-add-and m (bitAnd m h))
+
+less-test : (m h k : ℕ) → eqb (bit (bitXor m (bitAnd m h)) k) 1 ≡ (eqb (bit m k) 1 && not (eqb (bit h k) 1))
+less-test m h k =
+    ap (λ (y : ℕ). eqb y 1) (xor-bits m (bitAnd m h) k ∙ ap (bitXor (bit m k)) (and-bits m h k))
+    ∙ bit-case2 (λ x y. eqb (bitXor x (bitAnd x y)) 1 ≡ (eqb x 1 && not (eqb y 1))) refl refl refl refl (m / 2 ^ k) (h / 2 ^ k)
+
+pub rows-less : {test other : ℕ → Bool} {rows : List ℕ} {among m h : ℕ} → Rows test rows among m → Rows other rows among h
+    → Rows (λ w. test w && not (other w)) rows among (bitXor m (bitAnd m h))
+rows-less {test} {other} {rows} {among} {m} {h} s t =
+    record {
+      within = le-trans (less-le m h) (s .within);
+      is = λ k l. less-test m h k ∙ ap₂ (λ (a b : Bool). a && not b) (s .is k l) (t .is k l) ∙ both (eqb (bit among k) 1) (test (getD rows k 0)) (other (getD rows k 0));
+    }
+  where
+    both : (a b c : Bool) → ((a && b) && not (a && c)) ≡ (a && (b && not c))
+    both true b c = refl
+    both false b c = refl
 
 -- Among all rows the test alone counts.
 all-test : (test : ℕ → Bool) (rows : List ℕ) (k : ℕ) {b : Bool} → k < length rows → (eqb (bit (2 ^ length rows - 1) k) 1 && test (getD rows k 0)) ≡ b → test (getD rows k 0) ≡ b

@@ -2,7 +2,7 @@
 use mathlib.Core.Path.{_≡_, refl, sym, ap, ap₂, _∙_, subst}
 use mathlib.Core.Bool.{Bool, _||_}
 use mathlib.Core.List.{List}
-use Prim.Native.Nat.{ℕ, zero, suc, _+_, _-_, _*_, _/_, _%_, _^_, _≤_, _<_}
+use Prim.Native.Nat.{ℕ, zero, suc, _+_, _-_, _/_, _%_, _^_, _≤_, _<_}
 use native.Mathlib.Nat.{not-suc-le-zero, le-of-suc-le-suc, pow-suc}
 use native.Mathlib.Omega.{arith}
 use lib.Dec.{eqb}
@@ -12,8 +12,8 @@ use lib.ListN.{length, getD}
 use Rattle.hazard.specs.Cube.{bit, fits}
 use Rattle.hazard.proofs.Point.{bit-zero, bit-suc}
 use Rattle.cube.specs.Mask.{digit}
-use Rattle.cube.specs.Entry.{careIn, valueIn, pointIn}
-use Rattle.cube.proofs.Bits.{bit-case, bit-case2}
+use Rattle.cube.specs.Entry.{pointIn}
+use Rattle.cube.proofs.Bits.{bit-case2}
 use Rattle.cube.proofs.WordMask.{mod-bit, and-bits, xor-bits}
 use Rattle.columns.specs.Column.{columnOf}
 use Rattle.columns.specs.Relation.{digitIn, allows}

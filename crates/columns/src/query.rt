@@ -32,7 +32,8 @@ pub fn digit_at(c: Cube, i: usize) -> usize
     ((c.value >> i) % 2) as usize
 }
 
-// The rows of `among` that are related to the cube, in the relation of the table.
+// The rows of `among` that are related to the cube, in the relation of the table. Past the last row the table's words say nothing: `among`
+// keeps those bits out.
 pub fn related(n: usize, table: &[u64], c: Cube, among: u64) -> u64
     requires { ⌜ (n ≤ 16) × (3 * n ≤ length (now table)) ⌝ }
     ensures { λ r. ⌜ ((rel : Relation) (rows : List ℕ) → Table rel n rows (now (table .entry)) → Rows (relates rel n (cubeOf n c)) rows among r) ⌝ }

@@ -1,6 +1,6 @@
 // How rows may be related to a cube, and for one input the rows that allow each digit of the cube.
 ghost use mathlib.Core.Bool.{_||_};
-ghost use Prim.Native.Nat.{ℕ, _≤_, _<_};
+ghost use Prim.Native.Nat.{_≤_, _<_};
 ghost use lib.Dec.{eqb};
 ghost use lib.ListN.{length};
 ghost use Rattle.hazard.specs.Cube.{fits};

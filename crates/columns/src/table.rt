@@ -1,5 +1,4 @@
 // The table of up to 64 rows for one relation: three words for each input.
-ghost use mathlib.Core.Path.{_≡_};
 ghost use Prim.Native.Nat.{_*_, _≤_};
 ghost use lib.ListN.{length};
 ghost use Rattle.columns.specs.Table.{Table};

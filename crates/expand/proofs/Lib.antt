@@ -1,4 +1,5 @@
 pub mod Growing
+pub mod Illegal
 pub mod Outcome
 pub mod Raising
 pub mod Ready

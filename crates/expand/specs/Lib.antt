@@ -1,2 +1,3 @@
 pub mod Ready
+pub mod Columns
 pub mod Answer

@@ -1,6 +1,7 @@
 // Supercube-dhf: a cube grown until it is legal or blocked.
 ghost use Rattle.cube.specs.Mask.{cubeOf, Clean};
 ghost use Rattle.expand.specs.Ready.{Ready};
+ghost use Rattle.expand.specs.Columns.{Columns};
 ghost use Rattle.expand.specs.Answer.{Grows};
 use crate::meeting::Met;
 use crate::meeting::first_illegal;
@@ -17,8 +18,9 @@ pub enum Grown {
 }
 
 // The cube grown: while it has no zero and some illegal intersection, the first privileged cube so met has its start point taken in.
-pub fn grow(n: usize, off: &[u64], privileged: &[u64], c: Cube) -> Grown
+pub fn grow(n: usize, off: &[u64], privileged: &[u64], columns: &[u64], c: Cube) -> Grown
     requires { ⌜ Ready n (now off) ⌝ }
+    requires { ⌜ Columns n (now privileged) (now columns) ⌝ }
     requires { ⌜ Clean n c ⌝ }
     ensures { λ r. ⌜ Grows n (now (off .entry)) (now (privileged .entry)) (cubeOf n c) r ⌝ }
 {
@@ -28,7 +30,7 @@ pub fn grow(n: usize, off: &[u64], privileged: &[u64], c: Cube) -> Grown
         if let Found::At(z) = lowest_zero(n, off, cube) {
             return Grown::Blocked(z, steps);
         }
-        let Met::At(w) = first_illegal(privileged, cube) else {
+        let Met::At(w) = first_illegal(n, privileged, columns, cube) else {
             return Grown::Legal(cube, steps);
         };
         cube = joined(cube, point_in(w));

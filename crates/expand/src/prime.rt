@@ -6,6 +6,7 @@ ghost use Rattle.cube.specs.Mask.{cubeOf, Clean, Stands};
 ghost use Rattle.cube.specs.Entry.{privilegedIn};
 ghost use Rattle.cube.specs.PointSet.{inSet};
 ghost use Rattle.expand.specs.Ready.{Ready};
+ghost use Rattle.expand.specs.Columns.{Columns};
 ghost use Rattle.expand.specs.Answer.{grownOf, LegalClean};
 use crate::growth::Grown;
 use crate::growth::grow;
@@ -24,34 +25,44 @@ fn grown_or(c: Cube, grown: Grown) -> Cube
 }
 
 // The literal of input i raised, and the cube grown, where that ends legal.
-fn raise(n: usize, off: &[u64], privileged: &[u64], c: Cube, i: usize) -> Cube
+fn raise(n: usize, off: &[u64], privileged: &[u64], columns: &[u64], c: Cube, i: usize) -> Cube
     requires { ⌜ Ready n (now off) ⌝ }
+    requires { ⌜ Columns n (now privileged) (now columns) ⌝ }
     requires { ⌜ Clean n c × (i < n) ⌝ }
     ensures { λ r. ⌜ Stands n r (spec.raise n (inSet (now (off .entry))) (map (privilegedIn n) (now (privileged .entry))) (cubeOf n c) i) ⌝ }
 {
-    grown_or(c, grow(n, off, privileged, raised(c, i)))
+    grown_or(c, grow(n, off, privileged, columns, raised(c, i)))
 }
 
 // The cube with its literals raised, one after the other.
-pub fn expanded(n: usize, off: &[u64], privileged: &[u64], c: Cube) -> Cube
+pub fn expanded(n: usize, off: &[u64], privileged: &[u64], columns: &[u64], c: Cube) -> Cube
     requires { ⌜ Ready n (now off) ⌝ }
+    requires { ⌜ Columns n (now privileged) (now columns) ⌝ }
     requires { ⌜ Clean n c ⌝ }
     ensures { λ r. ⌜ Stands n r (spec.expand n (inSet (now (off .entry))) (map (privilegedIn n) (now (privileged .entry))) (cubeOf n c)) ⌝ }
 {
     let mut p = c;
     let mut i = 0;
     while i < n {
-        p = raise(n, off, privileged, p, i);
+        p = raise(n, off, privileged, columns, p, i);
         i += 1;
     }
     p
 }
 
 // The cube grown over a further one, where that ends legal.
-pub fn absorbed(n: usize, off: &[u64], privileged: &[u64], c: Cube, d: Cube) -> Cube
+pub fn absorbed(
+    n: usize,
+    off: &[u64],
+    privileged: &[u64],
+    columns: &[u64],
+    c: Cube,
+    d: Cube,
+) -> Cube
     requires { ⌜ Ready n (now off) ⌝ }
+    requires { ⌜ Columns n (now privileged) (now columns) ⌝ }
     requires { ⌜ Clean n c ⌝ }
     ensures { λ r. ⌜ Stands n r (spec.absorb n (inSet (now (off .entry))) (map (privilegedIn n) (now (privileged .entry))) (cubeOf n c) (cubeOf n d)) ⌝ }
 {
-    grown_or(c, grow(n, off, privileged, supercube_of(c, d)))
+    grown_or(c, grow(n, off, privileged, columns, supercube_of(c, d)))
 }

@@ -1,9 +1,6 @@
 use Prim.Native.Nat.{_-_}
 use native.Mathlib.Omega.{arith}
 use borrow.Author.Needs.{needs}
-use Rattle.hazard.specs.Cube.{bit}
-use Rattle.hazard.proofs.Point.{bit-lt}
-use lib.ListN.{getD}
 use Rattle.columns.proofs.ColumnBits.{Read, read-start, read-room, read-step, read-end}
 use Rattle.columns.proofs.column.column.Statement.{statement}
 use Rattle.columns.proofs.column.column.Tie as tie

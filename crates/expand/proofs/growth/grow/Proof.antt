@@ -16,10 +16,10 @@ use Rattle.expand.proofs.growth.grow.Statement.{statement}
 use Rattle.expand.proofs.growth.grow.Tie as tie
 
 abbrev Inv-loop : tie.InvT-loop
-Inv-loop n off privileged cube₀ steps₀ cube steps = Clean n cube × Growing n (inSet off) (map (privilegedIn n) privileged) (cubeOf n cube) steps (grow n (inSet off) (map (privilegedIn n) privileged) (cubeOf n cube₀))
+Inv-loop n off privileged columns cube₀ steps₀ cube steps = Clean n cube × Growing n (inSet off) (map (privilegedIn n) privileged) (cubeOf n cube) steps (grow n (inSet off) (map (privilegedIn n) privileged) (cubeOf n cube₀))
 
 abbrev μ-loop : tie.MeasureT-loop
-μ-loop n off privileged cube₀ steps₀ cube steps = n - steps
+μ-loop n off privileged columns cube₀ steps₀ cube steps = n - steps
 
 loop-holds : tie.Need-loop-holds Inv-loop μ-loop
 loop-holds c = (search needs, growing-start _ _ _ _)
@@ -52,15 +52,15 @@ enum-told-2 c = search needs
 
 -- The cube has no zero.
 no-zero : (c : tie.After-enum-told Inv-loop μ-loop)
-    → let a = c .before .before .before .before .before .before .before .args in lowestZero (a .n) (inSet (a .off .now)) (cubeOf (a .n) (c .before .before .before .before .loop .cube)) ≡ none
+    → let a = c .before .before .before .before .before .before .before .before .args in lowestZero (a .n) (inSet (a .off .now)) (cubeOf (a .n) (c .before .before .before .before .loop .cube)) ≡ none
 no-zero c = sym (c .before .before .lowest-zero .ensures) ∙ ap foundOf (c .enum-told .given .1)
 
 returns-2 : tie.Need-returns-2 Inv-loop μ-loop
 returns-2 c =
-    let s = c .before .before .before .before .before .before .before .before .before .before in
+    let s = c .before .before .before .before .before .before .before .before .before .before .before in
     let l = c .before .before .before .before .before .before .before .loop in
     record {
-      is = growing-legal (l .inv .1) (omega arith) (no-zero (c .before .before .before)) (sym (c .before .before .first-illegal .ensures (s .args .n) (l .inv .0 .small)) ∙ ap (metOf (s .args .n)) (c .enum-told2 .given .1));
+      is = growing-legal (l .inv .1) (omega arith) (no-zero (c .before .before .before)) (sym (c .before .before .first-illegal .ensures) ∙ ap (metOf (s .args .n)) (c .enum-told2 .given .1));
       few = omega arith;
       clean = l .inv .0;
     }
@@ -79,10 +79,10 @@ loop-less c = search needs
 
 loop-again : tie.Need-loop-again Inv-loop μ-loop
 loop-again c =
-    let n = c .before .before .before .before .before .before .before .before .before .before .before .before .before .args .n in
+    let n = c .before .before .before .before .before .before .before .before .before .before .before .before .before .before .args .n in
     let l = c .before .before .before .before .before .before .before .before .before .before .loop in
     let j = c .joined .ensures n (l .inv .0 .small) in
-    let met = sym (c .before .before .before .before .before .first-illegal .ensures n (l .inv .0 .small)) ∙ ap (metOf n) (c .before .before .before .w .given .1) in
+    let met = sym (c .before .before .before .before .before .first-illegal .ensures) ∙ ap (metOf n) (c .before .before .before .w .given .1) in
     (j .fits, rw (j .is, c .before .point-in .ensures) (growing-step (l .inv .1) (omega arith) (no-zero (c .before .before .before .before .before .before)) met))
 
 lowest-zero-requires-2 : tie.Need-lowest-zero-requires-2 Inv-loop μ-loop

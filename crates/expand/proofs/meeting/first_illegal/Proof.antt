@@ -1,68 +1,38 @@
-use mathlib.Core.Path.{sym, _∙_}
-use mathlib.Core.List.{map}
-use Prim.Native.Nat.{ℕ, _-_, _<_, _^_}
 use native.Mathlib.Omega.{arith}
-use lib.ListN.{length}
+use lib.Count.{trailing-le}
 use borrow.Author.Needs.{needs}
-use Rattle.hazard.specs.Search.{find}
 use Rattle.hazard.specs.Implicant.{illegal}
 use Rattle.cube.specs.Mask.{cubeOf}
 use Rattle.cube.specs.Entry.{privilegedIn}
-use Rattle.cube.proofs.Left.{Left, left-start, left-end, find-hit, find-miss}
+use Rattle.columns.proofs.Selecting.{rows-find-none, rows-find-low, rows-find}
 use Rattle.expand.proofs.meeting.first_illegal.Statement.{statement}
 use Rattle.expand.proofs.meeting.first_illegal.Tie as tie
 
-abbrev Inv-loop : tie.InvT-loop
-Inv-loop privileged c k₀ k = (n : ℕ) → c .care < 2 ^ n → Left (λ l. find (illegal (cubeOf n c)) (map (privilegedIn n) l)) privileged k
+illegal-rows-requires : tie.Need-illegal-rows-requires
+illegal-rows-requires c κs = search needs
 
-abbrev μ-loop : tie.MeasureT-loop
-μ-loop privileged c k₀ k = length privileged - k
+returns : tie.Need-returns
+returns c =
+    let a = c .before .before .before .before .args in
+    rows-find-none (illegal (cubeOf (a .n) (a .c))) (privilegedIn (a .n)) (c .before .illegal-rows .ensures) (c .if1 .taken)
 
-loop-holds : tie.Need-loop-holds Inv-loop μ-loop
-loop-holds c n h = left-start
+cast-first : tie.Need-cast-first
+cast-first c = omega (arith, trailing-le 64 (c .before .illegal-rows .result))
 
-mul-w : tie.Need-mul-w Inv-loop μ-loop
-mul-w c = search needs
+mul-t9 : tie.Need-mul-t9
+mul-t9 c = omega (arith, trailing-le 64 (c .before .illegal-rows .result))
 
-shared-slice-read-w : tie.Need-shared-slice-read-w Inv-loop μ-loop
-shared-slice-read-w c = search needs
+shared-slice-read-t11 : tie.Need-shared-slice-read-t11
+shared-slice-read-t11 c =
+    let s = c .before .before .before .before .before in
+    rows-find-low (illegal (cubeOf (s .args .n) (s .args .c))) (privilegedIn (s .args .n)) (c .before .before .illegal-rows .ensures) (s .pre .few) (c .before .if1 .left)
 
-meets-illegally-requires : tie.Need-meets-illegally-requires Inv-loop μ-loop
-meets-illegally-requires c κs = search needs
-
-returns : tie.Need-returns Inv-loop μ-loop
-returns c n h =
-    let s = c .before .before .before .before .before .before in
-    let l = c .before .before .before .before .loop in
-    find-hit (illegal (cubeOf n (s .args .c))) (privilegedIn n) (l .inv n h) (omega arith) (sym (c .before .meets-illegally .ensures n h) ∙ c .if1 .taken)
-
-add-k : tie.Need-add-k Inv-loop μ-loop
-add-k c = search needs
-
-loop-less : tie.Need-loop-less Inv-loop μ-loop
-loop-less c = search needs
-
-loop-again : tie.Need-loop-again Inv-loop μ-loop
-loop-again c n h =
-    let s = c .before .before .before .before .before .before in
-    let l = c .before .before .before .before .loop in
-    find-miss (illegal (cubeOf n (s .args .c))) (privilegedIn n) (l .inv n h) (omega arith) (sym (c .before .meets-illegally .ensures n h) ∙ c .if1 .left)
-
-returns-2 : tie.Need-returns-2 Inv-loop μ-loop
-returns-2 c n h = left-end (c .before .loop .inv n h) (omega arith)
+returns-2 : tie.Need-returns-2
+returns-2 c =
+    let s = c .before .before .before .before .before in
+    rows-find (illegal (cubeOf (s .args .n) (s .args .c))) (privilegedIn (s .args .n)) (c .before .before .illegal-rows .ensures) (s .pre .few) (c .before .if1 .left)
 
 pub first-illegal-spec : {M : Type 1} → statement M
 first-illegal-spec =
     tie.close
-    (tie.spec
-    Inv-loop
-    μ-loop
-    loop-holds
-    mul-w
-    shared-slice-read-w
-    meets-illegally-requires
-    returns
-    add-k
-    loop-less
-    loop-again
-    returns-2)
+    (tie.spec illegal-rows-requires returns cast-first mul-t9 shared-slice-read-t11 returns-2)

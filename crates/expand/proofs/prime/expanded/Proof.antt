@@ -11,10 +11,10 @@ use Rattle.expand.proofs.prime.expanded.Statement.{statement}
 use Rattle.expand.proofs.prime.expanded.Tie as tie
 
 abbrev Inv-loop : tie.InvT-loop
-Inv-loop n off privileged p₀ i₀ p i = Clean n p × Raising n (inSet off) (map (privilegedIn n) privileged) (cubeOf n p) i (expand n (inSet off) (map (privilegedIn n) privileged) (cubeOf n p₀))
+Inv-loop n off privileged columns p₀ i₀ p i = Clean n p × Raising n (inSet off) (map (privilegedIn n) privileged) (cubeOf n p) i (expand n (inSet off) (map (privilegedIn n) privileged) (cubeOf n p₀))
 
 abbrev μ-loop : tie.MeasureT-loop
-μ-loop n off privileged p₀ i₀ p i = n - i
+μ-loop n off privileged columns p₀ i₀ p i = n - i
 
 loop-holds : tie.Need-loop-holds Inv-loop μ-loop
 loop-holds c = (search needs, raising-start _ _ _ _)
