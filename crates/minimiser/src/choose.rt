@@ -4,6 +4,7 @@ ghost use Prim.Native.Nat.{ℕ, _*_, _≤_, _<_};
 ghost use lib.ListN.{length, getD};
 ghost use Rattle.cube.specs.Entry.{CleanWord};
 ghost use Rattle.expand.specs.Ready.{Ready};
+ghost use Rattle.expand.specs.Columns.{Columns};
 ghost use Rattle.choice.specs.Rows.{Inside};
 ghost use Rattle.minimiser.specs.Choose.{Choice};
 use blocks::whole::whole_into;
@@ -20,6 +21,7 @@ pub fn choose(
     n: usize,
     off: &[u64],
     privileged: &[u64],
+    legal: &[u64],
     required: &[u64],
     columns: &[u64],
     left: &mut [u64],
@@ -27,7 +29,7 @@ pub fn choose(
     firsts: &mut [u16],
     products: &mut [u64],
 ) -> Minimised
-    requires { ⌜ Ready n (now off) × (length (now required) ≤ 2048) × (length (now firsts) ≡ length (now required)) × (length (now required) ≤ length (now products)) ⌝ }
+    requires { ⌜ Ready n (now off) × Columns n (now privileged) (now legal) × (length (now required) ≤ 2048) × (length (now firsts) ≡ length (now required)) × (length (now required) ≤ length (now products)) ⌝ }
     requires { ⌜ Inside n (now required) (now columns) × (length (now left) ≤ 32) × (length (now required) ≤ 64 * length (now left)) × (length (now taken) ≡ length (now left)) ⌝ }
     requires { ⌜ ((k : ℕ) → CleanWord n (getD (now required) k 0)) ⌝ }
     requires { ⌜ ((k : ℕ) → k < length (now required) → getD (now firsts) k 0 ≡ 65535) ⌝ }
@@ -40,7 +42,7 @@ pub fn choose(
         let r = i;
         i += 1;
         if firsts[r] == NONE {
-            let made = product_for(n, off, privileged, required, firsts, r);
+            let made = product_for(n, off, privileged, legal, required, firsts, r);
             match made {
                 Made::Blocked(q) => return Minimised::Refused(q),
                 Made::Product(c) => {

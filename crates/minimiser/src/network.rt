@@ -11,6 +11,7 @@ use blocks::fill::blocks_into;
 use crate::select::select;
 use choice::first::NONE;
 use columns::relation::Relation;
+use expand::meeting::columns_into;
 use problem::refusal::Refusal;
 use problem::sets::sets_into;
 
@@ -27,6 +28,7 @@ fn cover_with(
     transitions: &[u16],
     off: &mut [u64],
     privileged: &mut [u64],
+    legal: &mut [u64],
     required: &mut [u64],
     columns: &mut [u64],
     left: &mut [u64],
@@ -36,18 +38,20 @@ fn cover_with(
     cover: &mut [u8],
 ) -> Minimised
     requires { ⌜ Ready n (now table) (now transitions) × (length (sets.required n (now table) (now transitions)) ≤ 2048) × (length (sets.required n (now table) (now transitions)) * n ≤ length (now cover)) ⌝ }
-    requires { ⌜ (length (now off) ≡ 16) × (64 ≤ length (now privileged)) × Room (length (sets.required n (now table) (now transitions))) (now required) (now firsts) (now products) × Columns (length (sets.required n (now table) (now transitions))) (now columns) (now left) (now taken) ⌝ }
+    requires { ⌜ (length (now off) ≡ 16) × (64 ≤ length (now privileged)) × (length (now legal) ≡ 60) × Room (length (sets.required n (now table) (now transitions))) (now required) (now firsts) (now products) × Columns (length (sets.required n (now table) (now transitions))) (now columns) (now left) (now taken) ⌝ }
     ensures { λ r. ⌜ Answered n (transition.off (now (table .entry))) (sets.privileged n (now (table .entry)) (now (transitions .entry))) (sets.required n (now (table .entry)) (now (transitions .entry))) (now (cover .entry)) (now (cover .exit)) (minimisedOf r) ⌝ }
 {
     let s = sets_into(n, table, transitions, off, privileged, required);
     let p = s.privileged;
     let r = s.required;
     let b = (r + 63) / 64;
+    columns_into(n, &privileged[0..p], legal);
     blocks_into(Relation::Inside, n, &required[0..r], columns);
     select(
         n,
         off,
         &privileged[0..p],
+        legal,
         &required[0..r],
         columns,
         &mut left[0..b],
@@ -65,6 +69,7 @@ fn cover_few(n: usize, table: &[u8], transitions: &[u16], cover: &mut [u8]) -> M
 {
     let mut off = [0u64; 16];
     let mut privileged = [0u64; 64];
+    let mut legal = [0u64; 60];
     let mut required = [0u64; 64];
     let mut columns = [0u64; 960];
     let mut left = [0u64; 1];
@@ -77,6 +82,7 @@ fn cover_few(n: usize, table: &[u8], transitions: &[u16], cover: &mut [u8]) -> M
         transitions,
         &mut off,
         &mut privileged,
+        &mut legal,
         &mut required,
         &mut columns,
         &mut left,
@@ -94,6 +100,7 @@ fn cover_many(n: usize, table: &[u8], transitions: &[u16], cover: &mut [u8]) -> 
 {
     let mut off = [0u64; 16];
     let mut privileged = [0u64; 64];
+    let mut legal = [0u64; 60];
     let mut required = [0u64; 2048];
     let mut columns = [0u64; 960];
     let mut left = [0u64; 32];
@@ -106,6 +113,7 @@ fn cover_many(n: usize, table: &[u8], transitions: &[u16], cover: &mut [u8]) -> 
         transitions,
         &mut off,
         &mut privileged,
+        &mut legal,
         &mut required,
         &mut columns,
         &mut left,

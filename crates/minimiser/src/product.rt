@@ -9,6 +9,7 @@ ghost use Rattle.cube.specs.Mask.{cubeOf, Clean};
 ghost use Rattle.cube.specs.Entry.{privilegedIn, CleanWord};
 ghost use Rattle.cube.specs.PointSet.{inSet};
 ghost use Rattle.expand.specs.Ready.{Ready};
+ghost use Rattle.expand.specs.Columns.{Columns};
 ghost use Rattle.minimiser.specs.Product.{Over, PrimeOver, MadeFor};
 use choice::first::NONE;
 use cube::entry::cube_in;
@@ -23,8 +24,16 @@ use problem::refusal::Refusal;
 
 // The cube grown over a further required cube, where that ends legal. A required cube that lies in a product already needs no other, so
 // it is not tried.
-fn grown_over(n: usize, off: &[u64], privileged: &[u64], c: Cube, w: u64, first: u16) -> Cube
-    requires { ⌜ Ready n (now off) ⌝ }
+fn grown_over(
+    n: usize,
+    off: &[u64],
+    privileged: &[u64],
+    legal: &[u64],
+    c: Cube,
+    w: u64,
+    first: u16,
+) -> Cube
+    requires { ⌜ Ready n (now off) × Columns n (now privileged) (now legal) ⌝ }
     requires { ⌜ Clean n c ⌝ }
     ensures { λ r. ⌜ Over n (now (off .entry)) (now (privileged .entry)) c r ⌝ }
 {
@@ -35,7 +44,7 @@ fn grown_over(n: usize, off: &[u64], privileged: &[u64], c: Cube, w: u64, first:
     if lies_inside(d, c) {
         return c;
     }
-    absorbed(n, off, privileged, c, d)
+    absorbed(n, off, privileged, legal, c, d)
 }
 
 // So many required cubes are tried with a product, its own and the next ones. Trying all would make the time grow with their square.
@@ -58,12 +67,13 @@ fn widened(
     n: usize,
     off: &[u64],
     privileged: &[u64],
+    legal: &[u64],
     required: &[u64],
     firsts: &[u16],
     i: usize,
     c: Cube,
 ) -> Cube
-    requires { ⌜ Ready n (now off) × (i < length (now required)) × (length (now firsts) ≡ length (now required)) ⌝ }
+    requires { ⌜ Ready n (now off) × Columns n (now privileged) (now legal) × (i < length (now required)) × (length (now firsts) ≡ length (now required)) ⌝ }
     requires { ⌜ Clean n c × T (dhfImplicant n (inSet (now off)) (map (privilegedIn n) (now privileged)) (cubeOf n c)) ⌝ }
     ensures { λ r. ⌜ PrimeOver n (now (off .entry)) (now (privileged .entry)) (cubeOf n c) r ⌝ }
 {
@@ -71,10 +81,10 @@ fn widened(
     let end = reach_of(i, required.len());
     let mut k = i + 1;
     while k < end {
-        p = grown_over(n, off, privileged, p, required[k], firsts[k]);
+        p = grown_over(n, off, privileged, legal, p, required[k], firsts[k]);
         k += 1;
     }
-    expanded(n, off, privileged, p)
+    expanded(n, off, privileged, legal, p)
 }
 
 // What is made for a required cube: its product, or its refusal.
@@ -88,18 +98,21 @@ pub fn product_for(
     n: usize,
     off: &[u64],
     privileged: &[u64],
+    legal: &[u64],
     required: &[u64],
     firsts: &[u16],
     i: usize,
 ) -> Made
-    requires { ⌜ Ready n (now off) × (i < length (now required)) × (length (now firsts) ≡ length (now required)) ⌝ }
+    requires { ⌜ Ready n (now off) × Columns n (now privileged) (now legal) × (i < length (now required)) × (length (now firsts) ≡ length (now required)) ⌝ }
     requires { ⌜ ((k : ℕ) → CleanWord n (getD (now required) k 0)) ⌝ }
     ensures { λ r. ⌜ MadeFor n (now (off .entry)) (now (privileged .entry)) (getD (now (required .entry)) i 0) r ⌝ }
 {
     let w = required[i];
-    let grown = grow(n, off, privileged, cube_in(w));
+    let grown = grow(n, off, privileged, legal, cube_in(w));
     match grown {
-        Grown::Legal(c, _) => Made::Product(widened(n, off, privileged, required, firsts, i, c)),
+        Grown::Legal(c, _) => Made::Product(widened(
+            n, off, privileged, legal, required, firsts, i, c,
+        )),
         Grown::Blocked(z, s) => Made::Blocked(refusal_of(w, z, s)),
     }
 }

@@ -6,6 +6,7 @@ ghost use lib.ListN.{length, getD};
 ghost use Rattle.cube.specs.Entry.{requiredIn, privilegedIn, CleanWord};
 ghost use Rattle.cube.specs.PointSet.{inSet};
 ghost use Rattle.expand.specs.Ready.{Ready};
+ghost use Rattle.expand.specs.Columns.{Columns};
 ghost use Rattle.choice.specs.Rows.{Inside};
 ghost use Rattle.minimiser.specs.Answer.{minimisedOf, Answered};
 use crate::choose::choose;
@@ -18,6 +19,7 @@ pub fn select(
     n: usize,
     off: &[u64],
     privileged: &[u64],
+    legal: &[u64],
     required: &[u64],
     columns: &[u64],
     left: &mut [u64],
@@ -26,14 +28,14 @@ pub fn select(
     products: &mut [u64],
     cover: &mut [u8],
 ) -> Minimised
-    requires { ⌜ Ready n (now off) × (length (now required) ≤ 2048) × (length (now firsts) ≡ length (now required)) × (length (now required) ≤ length (now products)) × (length (now required) * n ≤ length (now cover)) ⌝ }
+    requires { ⌜ Ready n (now off) × Columns n (now privileged) (now legal) × (length (now required) ≤ 2048) × (length (now firsts) ≡ length (now required)) × (length (now required) ≤ length (now products)) × (length (now required) * n ≤ length (now cover)) ⌝ }
     requires { ⌜ Inside n (now required) (now columns) × (length (now left) ≤ 32) × (length (now required) ≤ 64 * length (now left)) × (length (now taken) ≡ length (now left)) ⌝ }
     requires { ⌜ ((k : ℕ) → CleanWord n (getD (now required) k 0)) ⌝ }
     requires { ⌜ ((k : ℕ) → k < length (now required) → getD (now firsts) k 0 ≡ 65535) ⌝ }
     ensures { λ r. ⌜ Answered n (inSet (now (off .entry))) (map (privilegedIn n) (now (privileged .entry))) (map (requiredIn n) (now (required .entry))) (now (cover .entry)) (now (cover .exit)) (minimisedOf r) ⌝ }
 {
     let chosen = choose(
-        n, off, privileged, required, columns, left, taken, firsts, products,
+        n, off, privileged, legal, required, columns, left, taken, firsts, products,
     );
     let Minimised::Products(m) = chosen else {
         return chosen;
