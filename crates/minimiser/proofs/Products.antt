@@ -108,3 +108,7 @@ module _ (n : ℕ) (off privileged : List ℕ) where
       let s : Stands n r (cubeOf n r) = record { fits = h .fits; is = refl } in
       let e : cubeIn n w ≡ cubeOf n r = packed-is p s in
       (record { prime = rw e (h .prime); clean = packed-clean p s (pow-pos n) }, rw e (h .around))
+
+  -- And the word's cube is the product's.
+  pub product-cube : {c : Cube} {w t : ℕ} {r : masks.Cube} → PrimeOver n off privileged c r → Packed w t 0 (r .care) (r .value) → cubeIn n w ≡ cubeOf n r
+  product-cube {r = r} h p = packed-is p (record { fits = h .fits; is = refl })

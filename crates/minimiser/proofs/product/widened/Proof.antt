@@ -6,10 +6,10 @@ use Rattle.minimiser.proofs.product.widened.Statement.{statement}
 use Rattle.minimiser.proofs.product.widened.Tie as tie
 
 abbrev Inv-loop : tie.InvT-loop
-Inv-loop n off privileged required firsts i p₀ end k₀ p k = Stage n off privileged (cubeOf n p₀) p
+Inv-loop n off privileged legal required firsts i p₀ end k₀ p k = Stage n off privileged (cubeOf n p₀) p
 
 abbrev μ-loop : tie.MeasureT-loop
-μ-loop n off privileged required firsts i p₀ end k₀ p k = end - k
+μ-loop n off privileged legal required firsts i p₀ end k₀ p k = end - k
 
 reach-of-requires : tie.Need-reach-of-requires Inv-loop μ-loop
 reach-of-requires c κs = search needs
@@ -18,7 +18,7 @@ add-k : tie.Need-add-k Inv-loop μ-loop
 add-k c = search needs
 
 loop-holds : tie.Need-loop-holds Inv-loop μ-loop
-loop-holds c = let s = c .before .before .before .before .before in stage-start (s .args .n) (s .args .off .now) (s .args .privileged .now) (s .pre .1 .0) (s .pre .1 .1)
+loop-holds c = let s = c .before .before .before .before .before .before in stage-start (s .args .n) (s .args .off .now) (s .args .privileged .now) (s .pre .1 .0) (s .pre .1 .1)
 
 mul-grown-over : tie.Need-mul-grown-over Inv-loop μ-loop
 mul-grown-over c = search needs
@@ -33,7 +33,7 @@ shared-slice-read-grown-over-2 : tie.Need-shared-slice-read-grown-over-2 Inv-loo
 shared-slice-read-grown-over-2 c = search needs
 
 grown-over-requires : tie.Need-grown-over-requires Inv-loop μ-loop
-grown-over-requires c κs = (c .before .before .before .before .before .before .before .before .before .pre .0 .0, c .before .before .before .loop .inv .fits)
+grown-over-requires c κs = let s = c .before .before .before .before .before .before .before .before .before .before in ((s .pre .0 .0, s .pre .0 .1), c .before .before .before .loop .inv .fits)
 
 add-k-2 : tie.Need-add-k-2 Inv-loop μ-loop
 add-k-2 c = search needs
@@ -42,13 +42,13 @@ loop-less : tie.Need-loop-less Inv-loop μ-loop
 loop-less c = search needs
 
 loop-again : tie.Need-loop-again Inv-loop μ-loop
-loop-again c = let s = c .before .before .before .before .before .before .before .before .before .before in stage-step (s .args .n) (s .args .off .now) (s .args .privileged .now) (c .before .before .before .before .loop .inv) (c .grown-over .ensures)
+loop-again c = let s = c .before .before .before .before .before .before .before .before .before .before .before in stage-step (s .args .n) (s .args .off .now) (s .args .privileged .now) (c .before .before .before .before .loop .inv) (c .grown-over .ensures)
 
 expanded-requires : tie.Need-expanded-requires Inv-loop μ-loop
-expanded-requires c κs = (c .before .before .before .before .before .before .before .pre .0 .0, c .before .loop .inv .fits)
+expanded-requires c κs = let s = c .before .before .before .before .before .before .before .before in (s .pre .0 .0, (s .pre .0 .1, c .before .loop .inv .fits))
 
 returns : tie.Need-returns Inv-loop μ-loop
-returns c = let s = c .before .before .before .before .before .before .before .before in stage-end (s .args .n) (s .args .off .now) (s .args .privileged .now) (c .before .before .loop .inv) (c .expanded .ensures)
+returns c = let s = c .before .before .before .before .before .before .before .before .before in stage-end (s .args .n) (s .args .off .now) (s .args .privileged .now) (c .before .before .loop .inv) (c .expanded .ensures)
 
 pub widened-spec : {M : Type 1} → statement M
 widened-spec =
