@@ -97,7 +97,8 @@ pub fn product_for(
     ensures { λ r. ⌜ MadeFor n (now (off .entry)) (now (privileged .entry)) (getD (now (required .entry)) i 0) r ⌝ }
 {
     let w = required[i];
-    let grown = grow(n, off, privileged, cube_in(w));
+    let cube = cube_in(w);
+    let grown = grow(n, off, privileged, cube);
     match grown {
         Grown::Legal(c, _) => Made::Product(widened(n, off, privileged, required, firsts, i, c)),
         Grown::Blocked(z, s) => Made::Blocked(refusal_of(w, z, s)),
