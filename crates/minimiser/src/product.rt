@@ -108,7 +108,8 @@ pub fn product_for(
     ensures { λ r. ⌜ MadeFor n (now (off .entry)) (now (privileged .entry)) (getD (now (required .entry)) i 0) r ⌝ }
 {
     let w = required[i];
-    let grown = grow(n, off, privileged, legal, cube_in(w));
+    let cube = cube_in(w);
+    let grown = grow(n, off, privileged, legal, cube);
     match grown {
         Grown::Legal(c, _) => Made::Product(widened(
             n, off, privileged, legal, required, firsts, i, c,

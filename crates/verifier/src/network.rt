@@ -87,7 +87,7 @@ pub fn check_network(n: usize, bytes: &[u8]) -> Checked
 
 // The products, stored as words from the first on; how many.
 pub fn read_network(n: usize, bytes: &[u8], out: &mut [u64]) -> usize
-    requires { ⌜ Sound n (now bytes) × (2048 ≤ length (now out)) ⌝ }
+    requires { ⌜ Sound n (now bytes) × (length (now bytes) / n ≤ length (now out)) ⌝ }
     ensures { λ r. ⌜ Read n (now (bytes .entry)) (now (out .exit)) r ⌝ }
 {
     let count = bytes.len() / n;
