@@ -1,6 +1,6 @@
 -- What the cube operations on masks give.
 use mathlib.Core.Path.{_≡_, refl, sym, ap, ap₂, _∙_}
-use mathlib.Core.Bool.{Bool, _&&_, _||_}
+use mathlib.Core.Bool.{Bool, _&&_}
 use mathlib.Core.List.{List, [], _∷_}
 use Prim.Native.Nat.{ℕ, zero, suc, _+_, _-_, _*_, _/_, _%_, _^_, _≤_, _<_}
 use native.Mathlib.Nat.{pow-suc, lt-of-le-of-lt}
@@ -10,7 +10,7 @@ use lib.Arith.{lt-one}
 use lib.Bits.{bitAnd, bitOr, bitXor, and-zero-r, and-le-l, and-le-r, xor-lt}
 use lib.ListN.{set}
 use lib.Pow.{pow-pos}
-use Rattle.hazard.specs.Cube.{fits, over, has, span, join, supercube, meets, inside}
+use Rattle.hazard.specs.Cube.{fits, over, has, span, join, supercube, inside}
 use Rattle.cube.specs.Mask.{digit, digitsOf}
 use Rattle.cube.proofs.Bits.{bit-case2, bit-case3, bit-case4, halves, lasts, half-lt, zero-split}
 
@@ -23,16 +23,6 @@ has-masks (suc n) care v x h =
     (ap₂ _&&_
     (bit-case3 (λ a b c. eqb (bitAnd (bitXor a b) c) 0 ≡ fits a (digit c b)) refl refl refl refl refl refl refl refl x v care)
     (has-masks n (care / 2) (v / 2) (x / 2) (half-lt care n h)))
-
-pub meets-masks : (n c v d w : ℕ) → c < 2 ^ n → eqb (bitAnd (bitAnd c d) (bitXor v w)) 0 ≡ meets (digitsOf n c v) (digitsOf n d w)
-meets-masks zero c v d w h = ap (λ (a : ℕ). eqb (bitAnd (bitAnd a d) (bitXor v w)) 0) (lt-one h)
-meets-masks (suc n) c v d w h =
-    zero-split (bitAnd (bitAnd c d) (bitXor v w))
-    ∙ simp (halves, lasts)
-    (ap₂ _&&_
-    (bit-case4 (λ c v d w. eqb (bitAnd (bitAnd c d) (bitXor v w)) 0 ≡ (eqb (digit c v) 2 || fits (digit c v) (digit d w)))
-    refl refl refl refl refl refl refl refl refl refl refl refl refl refl refl refl c v d w)
-    (meets-masks n (c / 2) (v / 2) (d / 2) (w / 2) (half-lt c n h)))
 
 pub inside-masks : (n c v d w : ℕ) → d < 2 ^ n → eqb (bitAnd d (bitOr (bitXor c d) (bitXor v w))) 0 ≡ inside (digitsOf n c v) (digitsOf n d w)
 inside-masks zero c v d w h = ap (λ (a : ℕ). eqb (bitAnd a (bitOr (bitXor c a) (bitXor v w))) 0) (lt-one h)

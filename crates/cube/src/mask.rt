@@ -2,27 +2,13 @@
 ghost use mathlib.Core.Path.{_≡_};
 ghost use Prim.Native.Nat.{ℕ, _≤_, _<_, _^_};
 ghost use lib.ListN.{set};
-ghost use Rattle.hazard.specs.Cube.{has, span, join, supercube, meets, inside};
+ghost use Rattle.hazard.specs.Cube.{span, join, supercube, inside};
 ghost use Rattle.cube.specs.Mask.{cubeOf, Stands, Clean};
 
 // Bit i of care: input i has a literal. Bit i of value: that literal, 0 where there is none.
 pub struct Cube {
     pub care: u16,
     pub value: u16,
-}
-
-// The cube contains the point.
-pub fn contains(c: Cube, x: u16) -> bool
-    ensures { λ r. ⌜ ((n : ℕ) → c .care < 2 ^ n → r ≡ has (cubeOf n c) x) ⌝ }
-{
-    (x ^ c.value) & c.care == 0
-}
-
-// The two cubes share a point.
-pub fn intersects(c: Cube, d: Cube) -> bool
-    ensures { λ r. ⌜ ((n : ℕ) → c .care < 2 ^ n → r ≡ meets (cubeOf n c) (cubeOf n d)) ⌝ }
-{
-    c.care & d.care & (c.value ^ d.value) == 0
 }
 
 // The cube c lies inside d.
