@@ -23,7 +23,7 @@ use Rattle.hazard.specs.Search.{first}
 use Rattle.hazard.specs.Implicant.{lowestZero}
 use Rattle.cube.specs.Mask.{cubeOf, Clean}
 use Rattle.cube.specs.PointSet.{inSet}
-use Rattle.cube.specs.WordMask.{differs, Marks, inBoth, Common}
+use Rattle.cube.specs.WordMask.{differs, Marks, Words}
 use Rattle.cube.specs.declared.mask.Cube.{Cube}
 use Rattle.cube.proofs.Bits.{bit-case2, and-last, xor-last, half-lt}
 use Rattle.cube.proofs.Masks.{has-masks}
@@ -42,7 +42,7 @@ low-bit a k r {b} l h =
     ∙ ap (λ (y : ℕ). bit y r) (low a k h)
 
 -- A number that is 0 has no bit.
-no-bit : (a i : ℕ) → a ≡ 0 → bit a i ≡ 0
+pub no-bit : (a i : ℕ) → a ≡ 0 → bit a i ≡ 0
 no-bit a i e = ap (λ (y : ℕ). bit y i) e ∙ ap (λ (y : ℕ). y % 2) (zero-div (2 ^ i))
 
 and-bits : (a b i : ℕ) → bit (bitAnd a b) i ≡ bitAnd (bit a i) (bit b i)
@@ -132,113 +132,17 @@ module _ {c : Cube} {i m : ℕ} (s : Marks c i m) where
 pub marks-start : (c : Cube) → Marks c 0 1
 marks-start c = record { small = omega arith; marks = λ x. rw (mod-one, mod-one) }
 
--- The differences of a point, by its word and by its bit.
-differs-word : (c : Cube) (x : ℕ) → differs c x / 64 ≡ bitAnd (bitXor (x / 64) (c .value / 64)) (c .care / 64)
-differs-word c x = and-shr (bitXor x (c .value)) (c .care) 6 ∙ ap (λ (y : ℕ). bitAnd y (c .care / 64)) (xor-shr x (c .value) 6)
+-- The cube of the words.
+pub words-are : (c h : Cube) → Clean 10 c → h .care ≡ c .care / 64 → h .value ≡ c .value / 64 → Words c h
+words-are c h f p q =
+    record {
+      fits = record { small = omega (arith, f .small); clean = rw (p, q) (sym (and-shr (c .value) (c .care) 6) ∙ ap (λ (y : ℕ). y / 64) (f .clean)) };
+      word = λ x. rw (p, q) (sym (and-shr (bitXor x (c .value)) (c .care) 6 ∙ ap (λ (y : ℕ). bitAnd y (c .care / 64)) (xor-shr x (c .value) 6)));
+    }
 
 -- A bit of an `and`, as a test.
 both-bits : (a b : ℕ) → eqb (bitAnd (a % 2) (b % 2)) 1 ≡ (eqb (b % 2) 1 && eqb (a % 2) 1)
 both-bits = bit-case2 (λ a b. eqb (bitAnd a b) 1 ≡ (eqb b 1 && eqb a 1)) refl refl refl refl
 
-module _ (words : List ℕ) (c : Cube) (w : ℕ) where
-  -- A word that the cube has no point in.
-  pub common-none : bitAnd (bitXor w (c .value / 64)) (c .care / 64) ≢ 0 → Common words c w 0
-  common-none d = record { small = omega arith; common = λ x q. go x q }
-    where
-      go : (x : ℕ) → x / 64 ≡ w → eqb (bit 0 (x % 64)) 1 ≡ inBoth words c x
-      go x q =
-          let n : eqb (differs c x) 0 ≡ false = ne-eqb (differs c x) 0 (λ e. d (ap (λ (y : ℕ). bitAnd (bitXor y (c .value / 64)) (c .care / 64)) (sym q) ∙ sym (differs-word c x) ∙ ap (λ (y : ℕ). y / 64) e)) in
-          ap (λ (y : ℕ). eqb y 1) (no-bit 0 (x % 64) refl) ∙ sym (ap (λ (b : Bool). b && inSet words x) n)
-
-  pub common-here : {m : ℕ} → Marks c 6 m → bitAnd (bitXor w (c .value / 64)) (c .care / 64) ≡ 0 → Common words c w (bitAnd (getD words w 0) m)
-  common-here {m} s d = record { small = lt-of-le-of-lt (and-le-r (getD words w 0) m) (s .small); common = λ x q. go x q }
-    where
-      go : (x : ℕ) → x / 64 ≡ w → eqb (bit (bitAnd (getD words w 0) m) (x % 64)) 1 ≡ inBoth words c x
-      go x q =
-          let z : differs c x / 64 ≡ 0 = differs-word c x ∙ ap (λ (y : ℕ). bitAnd (bitXor y (c .value / 64)) (c .care / 64)) q ∙ d in
-          let n : differs c x % 64 ≡ differs c x = omega arith in
-          ap (λ (y : ℕ). eqb y 1) (and-bits (getD words w 0) m (x % 64))
-          ∙ both-bits (getD words w 0 / 2 ^ (x % 64)) (m / 2 ^ (x % 64))
-          ∙ ap₂ _&&_ (s .marks x ∙ ap (λ (y : ℕ). eqb y 0) n) (ap (λ (v : ℕ). eqb (bit (getD words v 0) (x % 64)) 1) (sym q))
-
--- The lowest bit of a number.
-bit-suc : (r t : ℕ) → bit r (suc t) ≡ bit (r / 2) t
-bit-suc r t = ap (λ (y : ℕ). y % 2) (ap (λ (j : ℕ). r / 2 ^ j) (sym (add-one t) ∙ add-comm t 1) ∙ sym (shr-shr r 1 t))
-
-pub record Lowest (k r t : ℕ) : Type 0 where
-  pub inside : t < k
-  pub set : bit r t ≡ 1
-  pub least : (b : ℕ) → b < t → bit r b ≡ 0
-
-pub lowest-bit : (k r : ℕ) → r < 2 ^ k → r ≢ 0 → Lowest k r (trailingZeros k r)
-unfolding trailingZeros
-lowest-bit zero r h n = absurd (n (lt-one h))
-lowest-bit (suc k) r h n = go (r % 2) refl (mod-lt r (omega arith)) (λ z. lowest-bit k (r / 2) (half-lt r k h) (λ e. n (omega arith)))
-  where
-    go : (d : ℕ) → r % 2 ≡ d → d < 2 → (r % 2 ≡ 0 → Lowest k (r / 2) (trailingZeros k (r / 2))) → Lowest (suc k) r (under d (trailingZeros k (r / 2)))
-    go zero e l ih = let v = ih e in record { inside = omega (arith, v .inside); set = bit-suc r _ ∙ v .set; least = λ b h. low b h }
-      where
-        low : (b : ℕ) → b < suc (trailingZeros k (r / 2)) → bit r b ≡ 0
-        low zero h = ap (λ (y : ℕ). y % 2) (div-one r) ∙ e
-        low (suc b) h = bit-suc r b ∙ ih e .least b (omega arith)
-    go (suc zero) e l ih = record { inside = omega arith; set = ap (λ (y : ℕ). y % 2) (div-one r) ∙ e; least = λ b h. absurd (omega arith) }
-    go (suc (suc d)) e l ih = absurd (omega arith)
-
--- A loop over the words, for the lowest point of the set in the cube: there is none in the words below w.
-pub record Looked (words : List ℕ) (c : Cube) (w : ℕ) : Type 0 where
-  pub none : (x : ℕ) → x / 64 < w → inBoth words c x ≡ false
-
-pub looked-start : (words : List ℕ) (c : Cube) → Looked words c 0
-looked-start words c = record { none = λ x l. absurd (omega arith) }
-
-first-at : (test : ℕ → Bool) (x size : ℕ) → test x ≡ true → x < size → ((y : ℕ) → y < x → test y ≡ false) → some x ≡ first test 0 size
-first-at test x size e l h = go (first test 0 size) (first-is test 0 size)
-  where
-    go : (o : Option ℕ) → First test 0 size o → some x ≡ o
-    go none (nowhere k) = absurd (k x (omega arith) (omega arith) (so e))
-    go (some y) (lowest t a b k) =
-        elim (decLt y x) [
-          | yes i ↦ absurd (so-not (h y i) t)
-          | no i ↦ elim (decLt x y) [ yes j ↦ absurd (k x (omega arith) j (so e)) | no j ↦ let q : x ≡ y = omega (arith, i, j) in ap some q ]
-        ]
-
-first-not : (test : ℕ → Bool) (size : ℕ) → ((y : ℕ) → y < size → test y ≡ false) → none ≡ first test 0 size
-first-not test size h = sym (none-first test 0 size (λ x a b. so-not (h x (omega (arith, b)))))
-
-module _ {words : List ℕ} {c : Cube} {w r : ℕ} (s : Looked words c w) (k : Common words c w r) where
-  pub looked-more : r ≡ 0 → Looked words c (w + 1)
-  looked-more e = record { none = λ x l. elim (ℕ-discrete (x / 64) w) [ yes q ↦ sym (k .common x q) ∙ ap (λ (y : ℕ). eqb y 1) (no-bit r (x % 64) e) | no q ↦ s .none x (omega arith) ] }
-
-  -- The lowest bit of the word is the lowest point of the set in the cube.
-  module _ (ne : r ≢ 0) where
-    least-bit : Lowest 64 r (trailingZeros 64 r)
-    least-bit = lowest-bit 64 r (k .small) ne
-
-    below : (y : ℕ) → y < 64 * w + trailingZeros 64 r → inBoth words c y ≡ false
-    below y l =
-        elim (decLt (y / 64) w) [
-          | yes i ↦ s .none y i
-          | no i ↦ let q : y / 64 ≡ w = omega (arith, i, least-bit .inside) in sym (k .common y q) ∙ ap (λ (b : ℕ). eqb b 1) (least-bit .least (y % 64) (omega arith))
-        ]
-
-    here : inBoth words c (64 * w + trailingZeros 64 r) ≡ true
-    here =
-        let q : (64 * w + trailingZeros 64 r) / 64 ≡ w = omega (arith, least-bit .inside) in
-        let p : (64 * w + trailingZeros 64 r) % 64 ≡ trailingZeros 64 r = omega (arith, least-bit .inside) in
-        sym (k .common (64 * w + trailingZeros 64 r) q) ∙ ap (λ (b : ℕ). eqb (bit r b) 1) p ∙ ap (λ (b : ℕ). eqb b 1) (least-bit .set)
-
-module _ {n : ℕ} {words : List ℕ} {c : Cube} {w : ℕ} (f : Clean n c) (s : Looked words c w) where
-  test-is : (x : ℕ) → (has (cubeOf n c) x && inSet words x) ≡ inBoth words c x
-  test-is x = ap (λ (b : Bool). b && inSet words x) (sym (has-masks n (c .care) (c .value) x (f .small)))
-
-  pub looked-end : 2 ^ n ≤ 64 * w → none ≡ lowestZero n (inSet words) (cubeOf n c)
-  looked-end l = first-not (λ x. has (cubeOf n c) x && inSet words x) (2 ^ n) (λ y b. test-is y ∙ s .none y (omega arith))
-
-  pub looked-hit : {r : ℕ} → Common words c w r → r ≢ 0 → 64 * w + trailingZeros 64 r < 2 ^ n → some (64 * w + trailingZeros 64 r) ≡ lowestZero n (inSet words) (cubeOf n c)
-  looked-hit {r} k ne l =
-      first-at (λ x. has (cubeOf n c) x && inSet words x) (64 * w + trailingZeros 64 r) (2 ^ n)
-      (test-is (64 * w + trailingZeros 64 r) ∙ here s k ne) l (λ y b. test-is y ∙ below s k ne y b)
-
-  -- With fewer than 6 inputs a word has bits that are no points.
-  pub looked-past : {r : ℕ} → Common words c w r → r ≢ 0 → 2 ^ n ≤ 64 * w + trailingZeros 64 r → none ≡ lowestZero n (inSet words) (cubeOf n c)
-  looked-past k ne l = first-not (λ x. has (cubeOf n c) x && inSet words x) (2 ^ n) (λ y b. test-is y ∙ below s k ne y (omega arith))
+pub and-test : (a b i : ℕ) → eqb (bit (bitAnd a b) i) 1 ≡ (eqb (bit b i) 1 && eqb (bit a i) 1)
+and-test a b i = ap (λ (y : ℕ). eqb y 1) (and-bits a b i) ∙ both-bits (a / 2 ^ i) (b / 2 ^ i)

@@ -1,7 +1,7 @@
 // The points of a cube, 64 at a time: inputs 0 to 5 choose the bit of a word, the inputs from 6 on choose the word.
 ghost use Prim.Native.Nat.{_+_, _<_};
-ghost use lib.ListN.{length};
-ghost use Rattle.cube.specs.WordMask.{Marks, Common};
+ghost use Rattle.cube.specs.Mask.{Clean};
+ghost use Rattle.cube.specs.WordMask.{Marks, Words};
 use crate::mask::Cube;
 use crate::point::bit_of;
 
@@ -34,14 +34,10 @@ pub fn low_mask(c: Cube) -> u64
     m
 }
 
-// The points of word w that are in the set and in the cube, whose mask is m.
-pub fn common_points(words: &[u64], w: usize, c: Cube, m: u64) -> u64
-    requires { ⌜ w < length (now words) ⌝ }
-    requires { ⌜ Marks c 6 m ⌝ }
-    ensures { λ r. ⌜ Common (now (words .entry)) c w r ⌝ }
+// The words that have points of the cube, as a cube of the inputs from 6 on.
+pub fn word_cube(c: Cube) -> Cube
+    requires { ⌜ Clean 10 c ⌝ }
+    ensures { λ r. ⌜ Words c r ⌝ }
 {
-    if (w ^ (c.value as usize / 64)) & (c.care as usize / 64) != 0 {
-        return 0;
-    }
-    words[w] & m
+    Cube { care: c.care / 64, value: c.value / 64 }
 }
