@@ -26,7 +26,7 @@ use Rattle.cube.specs.Next.{Next}
 use Rattle.cube.specs.PointSet.{inSet}
 use Rattle.cube.specs.WordMask.{differs, Marks, Words}
 use Rattle.cube.specs.declared.mask.Cube.{Cube}
-use Rattle.cube.proofs.Bits.{half-lt}
+use Rattle.cube.proofs.Bits.{half-lt, zero-both}
 use Rattle.cube.proofs.Masks.{has-masks}
 use Rattle.cube.proofs.Following.{value-least}
 use Rattle.cube.proofs.Scan.{value-in}
@@ -128,15 +128,6 @@ module _ {words : List ℕ} {h : Cube} {m w : ℕ} (s : Looked words h m w) (l :
         let p : least % 64 ≡ trailingZeros 64 common = omega (arith, least-bit .inside) in
         sym (common-is least q) ∙ ap (λ (b : ℕ). eqb (bit common b) 1) p ∙ ap (λ (b : ℕ). eqb b 1) (least-bit .set)
 
--- A number is 0 where both its parts are.
-zero-parts : (d : ℕ) → eqb d 0 ≡ (eqb (d / 64) 0 && eqb (d % 64) 0)
-zero-parts zero = refl
-zero-parts (suc d) = ne-eqb (suc d) 0 (λ e. omega arith) ∙ sym (go (suc d / 64) (suc d % 64) (omega arith))
-  where
-    go : (a b : ℕ) → 0 < a + b → (eqb a 0 && eqb b 0) ≡ false
-    go zero b h = ne-eqb b 0 (λ e. omega arith)
-    go (suc a) b h = ap (λ (t : Bool). t && eqb b 0) (ne-eqb (suc a) 0 (λ e. omega arith))
-
 and-assoc : (a b c : Bool) → ((a && b) && c) ≡ (a && (b && c))
 and-assoc true b c = refl
 and-assoc false b c = refl
@@ -148,7 +139,7 @@ module _ {n : ℕ} {words : List ℕ} {c h : Cube} {m w : ℕ} (f : Clean n c) (
   test-is : (x : ℕ) → test x ≡ inAll words h m x
   test-is x =
       let word : eqb (differs c x / 64) 0 ≡ has (cubeOf 4 h) (x / 64) = ap (λ (y : ℕ). eqb y 0) (sym (k .word x)) ∙ has-masks 4 (h .care) (h .value) (x / 64) (k .fits .small) in
-      ap (λ (b : Bool). b && inSet words x) (sym (has-masks n (c .care) (c .value) x (f .small)) ∙ zero-parts (differs c x) ∙ ap₂ _&&_ word (sym (a .marks x)))
+      ap (λ (b : Bool). b && inSet words x) (sym (has-masks n (c .care) (c .value) x (f .small)) ∙ zero-both (differs c x) (differs c x / 64) (differs c x % 64) (λ e. omega arith) (λ e. omega arith) ∙ ap₂ _&&_ word (sym (a .marks x)))
       ∙ and-assoc (has (cubeOf 4 h) (x / 64)) (eqb (bit m (x % 64)) 1) (inSet words x)
 
   pub looked-end : 2 ^ n ≤ 1024 → 2 ^ n ≤ 64 * w → none ≡ lowestZero n (inSet words) (cubeOf n c)

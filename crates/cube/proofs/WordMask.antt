@@ -1,32 +1,22 @@
 -- The bits of a cube's mask, and the words that the cube has points in.
 use mathlib.Core.Path.{_≡_, refl, sym, ap, ap₂, _∙_, subst}
-use mathlib.Core.Logic.{_≢_}
-use mathlib.Core.Bool.{Bool, true, false, _&&_}
-use mathlib.Core.Option.{Option, none, some}
-use mathlib.Core.List.{List}
-use Prim.Native.Nat.{ℕ, zero, suc, _+_, _-_, _*_, _/_, _%_, _^_, _≤_, _<_}
-use native.Mathlib.Nat.{mod-lt, mod-eq-of-lt, zero-div, div-one, zero-add, add-zero, mod-one, one-mul, zero-mul, add-comm, pow-suc, lt-of-lt-of-le, lt-of-le-of-lt}
-use native.Mathlib.Decide.{ℕ-discrete, decLt}
+use mathlib.Core.Bool.{Bool, _&&_}
+use Prim.Native.Nat.{ℕ, suc, _+_, _-_, _*_, _/_, _%_, _^_, _≤_, _<_}
+use native.Mathlib.Nat.{mod-lt, mod-eq-of-lt, zero-div, zero-add, add-zero, mod-one, one-mul, mul-one, zero-mul, add-comm, add-mul, mul-assoc, mul-comm, mul-le-mul-left, pow-suc, lt-of-lt-of-le, lt-of-le-of-lt}
+use native.Mathlib.Decide.{ℕ-discrete}
 use native.Mathlib.Numerals.{add-one}
 use native.Mathlib.Omega.{arith}
 use lib.Dec.{eqb}
-use lib.Arith.{digits-lt, lt-one}
-use lib.Bits.{bitAnd, bitOr, bitXor, and-shr, xor-shr, or-shifted-r, and-zero-r, and-le-r}
-use lib.Count.{under, trailingZeros}
+use lib.Arith.{digits-lt}
+use lib.Bits.{bitAnd, bitOr, bitXor, and-shr, xor-shr, or-shifted-r, and-zero-r, or-self, xor-self, xor-zero-r}
 use lib.Pow.{pow-pos, pow-add, pow-mono, shl-exact, shr-shr, high, low, field, mod-mod-pow, mod-pow-add}
-use lib.ListN.{getD}
 use borrow.Author.Tests.{ne-eqb}
-use Rattle.hazard.specs.Cube.{bit, has}
-use Rattle.hazard.proofs.Test.{so, so-not}
-use Rattle.hazard.proofs.Search.{First, nowhere, lowest, first-is, none-first}
-use Rattle.hazard.specs.Search.{first}
-use Rattle.hazard.specs.Implicant.{lowestZero}
-use Rattle.cube.specs.Mask.{cubeOf, Clean}
-use Rattle.cube.specs.PointSet.{inSet}
+use Rattle.hazard.specs.Cube.{bit}
+use Rattle.cube.specs.Mask.{Clean}
 use Rattle.cube.specs.WordMask.{differs, Marks, Words}
 use Rattle.cube.specs.declared.mask.Cube.{Cube}
-use Rattle.cube.proofs.Bits.{bit-case2, and-last, xor-last, half-lt}
-use Rattle.cube.proofs.Masks.{has-masks}
+use Rattle.cube.proofs.Bits.{bit-case2, and-last, xor-last}
+use Rattle.cube.proofs.Points.{and-bit}
 
 -- Bits of a number of two parts.
 high-bit : (a k r : ℕ) {b : ℕ} → b < 2 ^ k → bit (a * 2 ^ k + b) (k + r) ≡ bit a r
@@ -63,18 +53,6 @@ index-one x i e = next-index x i ∙ ap (λ (b : ℕ). b * 2 ^ i + x % 2 ^ i) e 
 
 twice : (i : ℕ) → 2 ^ (i + 1) ≡ 2 ^ i + 2 ^ i
 twice i = omega (arith, ap (λ (j : ℕ). 2 ^ j) (add-one i) ∙ pow-suc 2 i)
-
--- The code's m << 2^i.
-pub upper-is : (m i : ℕ) → i < 6 → m < 2 ^ (2 ^ i) → (m * 2 ^ ((1 * 2 ^ i) % 2 ^ 64)) % 2 ^ 64 ≡ m * 2 ^ (2 ^ i)
-upper-is m i l h =
-    let few : 2 ^ i + 2 ^ i ≤ 64 = omega (arith, twice i, pow-mono {i = i + 1} {j = 6} (omega arith)) in
-    let e : (1 * 2 ^ i) % 2 ^ 64 ≡ 2 ^ i = ap (λ (y : ℕ). y % 2 ^ 64) (one-mul (2 ^ i)) ∙ mod-eq-of-lt (omega (arith, few)) in
-    ap (λ (y : ℕ). (m * 2 ^ y) % 2 ^ 64) e ∙ shl-exact (2 ^ i) (2 ^ i) 64 h few
-
-pub upper-amount : (i : ℕ) → i < 6 → (1 * 2 ^ i) % 2 ^ 64 < 64
-upper-amount i l =
-    let few : 2 ^ i ≤ 32 = pow-mono {i = i} {j = 5} (omega arith) in
-    rw (one-mul (2 ^ i), mod-eq-of-lt {n = 2 ^ i} {m = 2 ^ 64} (omega (arith, few))) (omega (arith, few))
 
 -- The bit of a point in a mask of two halves, for the values 0 and 1 of the input.
 module _ (a b x i : ℕ) (h : b < 2 ^ (2 ^ i)) where
@@ -131,6 +109,93 @@ module _ {c : Cube} {i m : ℕ} (s : Marks c i m) where
 
 pub marks-start : (c : Cube) → Marks c 0 1
 marks-start c = record { small = omega arith; marks = λ x. rw (mod-one, mod-one) }
+
+-- A loop over inputs 0 to 5: m, moved by the ones among the literals below i, is the mask of the inputs below i.
+abbrev ones : Cube → ℕ
+ones c = bitAnd (c .care) (c .value)
+
+pub record Widened (c : Cube) (i m : ℕ) : Type 0 where
+  pub few : i ≤ 6
+  pub moved : Marks c i (m * 2 ^ (ones c % 2 ^ i))
+
+pub widened-start : (c : Cube) → Widened c 0 1
+widened-start c = record { few = omega arith; moved = rw (mod-one (ones c)) (marks-start c) }
+
+-- The weight of input i, and 0 where it has a literal.
+abbrev weight : ℕ → ℕ
+weight i = (1 * 2 ^ i) % 2 ^ 64
+
+abbrev free : Cube → ℕ → ℕ
+free c i = bitXor (weight i) (bitAnd (c .care) (weight i))
+
+module _ (c : Cube) (i : ℕ) (l : i < 6) where
+  half : 2 ^ i + 2 ^ i ≤ 64
+  half = omega (arith, twice i, pow-mono {i = i + 1} {j = 6} (omega arith))
+
+  weight-is : weight i ≡ 2 ^ i
+  weight-is = ap (λ (y : ℕ). y % 2 ^ 64) (one-mul (2 ^ i)) ∙ mod-eq-of-lt (omega (arith, half))
+
+  free-is : free c i ≡ bitXor (2 ^ i) (bit (c .care) i * 2 ^ i)
+  free-is = ap (λ (w : ℕ). bitXor w (bitAnd (c .care) w)) weight-is ∙ ap (bitXor (2 ^ i)) (and-bit (c .care) i)
+
+  free-one : bit (c .care) i ≡ 0 → free c i ≡ 2 ^ i
+  free-one e = free-is ∙ ap (λ (b : ℕ). bitXor (2 ^ i) (b * 2 ^ i)) e ∙ ap (bitXor (2 ^ i)) (zero-mul (2 ^ i)) ∙ xor-zero-r (2 ^ i)
+
+  free-zero : bit (c .care) i ≡ 1 → free c i ≡ 0
+  free-zero e = free-is ∙ ap (λ (b : ℕ). bitXor (2 ^ i) (b * 2 ^ i)) e ∙ ap (bitXor (2 ^ i)) (one-mul (2 ^ i)) ∙ xor-self (2 ^ i)
+
+  pub free-small : free c i < 64
+  free-small =
+      elim (ℕ-discrete (bit (c .care) i) 1) [
+        | yes e ↦ omega (arith, free-zero e)
+        | no n ↦ let z : bit (c .care) i ≡ 0 = omega arith in omega (arith, free-one z, half)
+      ]
+
+  ones-bit : bit (ones c) i ≡ bitAnd (bit (c .care) i) (bit (c .value) i)
+  ones-bit = and-bits (c .care) (c .value) i
+
+-- Factors in another order.
+swap : (m x y : ℕ) → m * x * y ≡ m * y * x
+swap m x y = mul-assoc m x y ∙ ap (λ (z : ℕ). m * z) (mul-comm x y) ∙ sym (mul-assoc m y x)
+
+module _ {c : Cube} {i m : ℕ} (s : Widened c i m) (l : i < 6) where
+  abbrev below : ℕ
+  below = 2 ^ (ones c % 2 ^ i)
+
+  own : m < 2 ^ (2 ^ i)
+  own = lt-of-le-of-lt (rw mul-one at (mul-le-mul-left m (pow-pos (ones c % 2 ^ i)))) (s .moved .small)
+
+  -- With a literal the bits stay, without one they are there twice.
+  stays : bit (c .care) i ≡ 1 → bitOr m ((m * 2 ^ free c i) % 2 ^ 64) ≡ m
+  stays e =
+      let h : m < 2 ^ 64 = lt-of-lt-of-le own (pow-mono {j = 64} (omega (arith, half c i l))) in
+      ap (λ (y : ℕ). bitOr m ((m * 2 ^ y) % 2 ^ 64)) (free-zero c i l e) ∙ ap (λ (y : ℕ). bitOr m (y % 2 ^ 64)) (mul-one m) ∙ ap (bitOr m) (mod-eq-of-lt h) ∙ or-self m
+
+  twofold : bit (c .care) i ≡ 0 → bitOr m ((m * 2 ^ free c i) % 2 ^ 64) * below ≡ bitOr (m * below) (m * below * 2 ^ (2 ^ i))
+  twofold e =
+      ap (λ (y : ℕ). bitOr m ((m * 2 ^ y) % 2 ^ 64) * below) (free-one c i l e)
+      ∙ ap (λ (y : ℕ). bitOr m y * below) (shl-exact (2 ^ i) (2 ^ i) 64 own (half c i l))
+      ∙ ap (λ (y : ℕ). y * below) (or-shifted-r m (2 ^ i) m own)
+      ∙ add-mul (m * 2 ^ (2 ^ i)) m below
+      ∙ ap (λ (y : ℕ). y + m * below) (swap m (2 ^ (2 ^ i)) below)
+      ∙ sym (or-shifted-r (m * below) (2 ^ i) (m * below) (s .moved .small))
+
+  higher : m * 2 ^ (2 ^ i + ones c % 2 ^ i) ≡ m * below * 2 ^ (2 ^ i)
+  higher = ap (λ (y : ℕ). m * y) (pow-add 2 (2 ^ i) (ones c % 2 ^ i)) ∙ sym (mul-assoc m (2 ^ (2 ^ i)) below) ∙ swap m (2 ^ (2 ^ i)) below
+
+  pub widened-more : Widened c (i + 1) (bitOr m ((m * 2 ^ free c i) % 2 ^ 64))
+  widened-more = record { few = omega arith; moved = go (ℕ-discrete (bit (c .care) i) 1) (ℕ-discrete (bit (c .value) i) 1) }
+    where
+      go : Dec (bit (c .care) i ≡ 1) → Dec (bit (c .value) i ≡ 1) → Marks c (i + 1) (bitOr m ((m * 2 ^ free c i) % 2 ^ 64) * 2 ^ (ones c % 2 ^ (i + 1)))
+      go (yes e) (yes v) = rw (stays e, index-one (ones c) i (ones-bit c i l ∙ rw (e, v)), higher) (marks-one (s .moved) e v)
+      go (yes e) (no v) = let z : bit (c .value) i ≡ 0 = omega arith in rw (stays e, index-zero (ones c) i (ones-bit c i l ∙ rw (e, z))) (marks-zero (s .moved) e z)
+      go (no e) v = let z : bit (c .care) i ≡ 0 = omega arith in rw (index-zero (ones c) i (ones-bit c i l ∙ rw z), twofold z) (marks-free (s .moved) z)
+
+pub widened-end : {c : Cube} {i m : ℕ} → Widened c i m → 6 ≤ i → Marks c 6 ((m * 2 ^ (ones c % 64)) % 2 ^ 64)
+widened-end {c} {i} {m} s l =
+    let e : i ≡ 6 = omega (arith, s .few) in
+    let t : Marks c 6 (m * 2 ^ (ones c % 64)) = rw e at (s .moved) in
+    rw (mod-eq-of-lt (t .small)) t
 
 -- The cube of the words.
 pub words-are : (c h : Cube) → Clean 10 c → h .care ≡ c .care / 64 → h .value ≡ c .value / 64 → Words c h
