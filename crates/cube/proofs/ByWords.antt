@@ -6,16 +6,15 @@ use mathlib.Core.Option.{Option, none, some}
 use mathlib.Core.List.{List}
 use Prim.Native.Nat.{ℕ, zero, suc, _+_, _*_, _/_, _%_, _^_, _≤_, _<_}
 use native.Mathlib.Nat.{mod-lt, div-one, add-comm, lt-of-le-of-lt}
-use native.Mathlib.Decide.{ℕ-discrete, decLt}
+use native.Mathlib.Decide.{decLt}
 use native.Mathlib.Numerals.{add-one}
 use native.Mathlib.Omega.{arith}
 use lib.Dec.{T, eqb}
 use lib.Arith.{lt-one}
 use lib.Bits.{bitAnd, and-le-r}
 use lib.Count.{under, trailingZeros}
-use lib.Pow.{shr-shr, pow-mono}
+use lib.Pow.{shr-shr}
 use lib.ListN.{getD}
-use borrow.Author.Tests.{ne-eqb, eqb-true}
 use Rattle.hazard.specs.Cube.{bit, has}
 use Rattle.hazard.proofs.Test.{is, isnt, so, so-not}
 use Rattle.hazard.proofs.Search.{First, nowhere, lowest, first-is, none-first}

@@ -1,6 +1,6 @@
 -- The bits of a cube's mask, and the words that the cube has points in.
-use mathlib.Core.Path.{_≡_, refl, sym, ap, ap₂, _∙_, subst}
-use mathlib.Core.Bool.{Bool, _&&_}
+use mathlib.Core.Path.{_≡_, refl, sym, ap, _∙_, subst}
+use mathlib.Core.Bool.{_&&_}
 use Prim.Native.Nat.{ℕ, suc, _+_, _-_, _*_, _/_, _%_, _^_, _≤_, _<_}
 use native.Mathlib.Nat.{mod-lt, mod-eq-of-lt, zero-div, zero-add, add-zero, mod-one, one-mul, mul-one, zero-mul, add-comm, add-mul, mul-assoc, mul-comm, mul-le-mul-left, pow-suc, lt-of-lt-of-le, lt-of-le-of-lt}
 use native.Mathlib.Decide.{ℕ-discrete}
@@ -8,7 +8,7 @@ use native.Mathlib.Numerals.{add-one}
 use native.Mathlib.Omega.{arith}
 use lib.Dec.{eqb}
 use lib.Arith.{digits-lt}
-use lib.Bits.{bitAnd, bitOr, bitXor, and-shr, xor-shr, or-shifted-r, and-zero-r, or-self, xor-self, xor-zero-r}
+use lib.Bits.{bitAnd, bitOr, bitXor, and-shr, xor-shr, or-shifted-r, and-zero-r, and-le-r, or-self, xor-self, xor-zero-r, xor-lt}
 use lib.Pow.{pow-pos, pow-add, pow-mono, shl-exact, shr-shr, high, low, field, mod-mod-pow, mod-pow-add}
 use borrow.Author.Tests.{ne-eqb}
 use Rattle.hazard.specs.Cube.{bit}
@@ -125,34 +125,33 @@ widened-start c = record { few = omega arith; moved = rw (mod-one (ones c)) (mar
 abbrev weight : ℕ → ℕ
 weight i = (1 * 2 ^ i) % 2 ^ 64
 
-abbrev free : Cube → ℕ → ℕ
-free c i = bitXor (weight i) (bitAnd (c .care) (weight i))
+abbrev free : ℕ → ℕ → ℕ
+free care i = bitXor (weight i) (bitAnd care (weight i))
 
-module _ (c : Cube) (i : ℕ) (l : i < 6) where
+module _ (i : ℕ) (l : i < 6) where
   half : 2 ^ i + 2 ^ i ≤ 64
   half = omega (arith, twice i, pow-mono {i = i + 1} {j = 6} (omega arith))
 
   weight-is : weight i ≡ 2 ^ i
   weight-is = ap (λ (y : ℕ). y % 2 ^ 64) (one-mul (2 ^ i)) ∙ mod-eq-of-lt (omega (arith, half))
 
-  free-is : free c i ≡ bitXor (2 ^ i) (bit (c .care) i * 2 ^ i)
-  free-is = ap (λ (w : ℕ). bitXor w (bitAnd (c .care) w)) weight-is ∙ ap (bitXor (2 ^ i)) (and-bit (c .care) i)
+  module _ (care : ℕ) where
+    pub free-small : free care i < 64
+    free-small =
+        let h : weight i < 64 = omega (arith, weight-is, half, pow-pos i) in
+        xor-lt 6 (weight i) (bitAnd care (weight i)) h (lt-of-le-of-lt (and-le-r care (weight i)) h)
 
-  free-one : bit (c .care) i ≡ 0 → free c i ≡ 2 ^ i
-  free-one e = free-is ∙ ap (λ (b : ℕ). bitXor (2 ^ i) (b * 2 ^ i)) e ∙ ap (bitXor (2 ^ i)) (zero-mul (2 ^ i)) ∙ xor-zero-r (2 ^ i)
+    free-is : free care i ≡ bitXor (2 ^ i) (bit care i * 2 ^ i)
+    free-is = ap (λ (w : ℕ). bitXor w (bitAnd care w)) weight-is ∙ ap (bitXor (2 ^ i)) (and-bit care i)
 
-  free-zero : bit (c .care) i ≡ 1 → free c i ≡ 0
-  free-zero e = free-is ∙ ap (λ (b : ℕ). bitXor (2 ^ i) (b * 2 ^ i)) e ∙ ap (bitXor (2 ^ i)) (one-mul (2 ^ i)) ∙ xor-self (2 ^ i)
+    free-one : bit care i ≡ 0 → free care i ≡ 2 ^ i
+    free-one e = free-is ∙ ap (λ (b : ℕ). bitXor (2 ^ i) (b * 2 ^ i)) e ∙ ap (bitXor (2 ^ i)) (zero-mul (2 ^ i)) ∙ xor-zero-r (2 ^ i)
 
-  pub free-small : free c i < 64
-  free-small =
-      elim (ℕ-discrete (bit (c .care) i) 1) [
-        | yes e ↦ omega (arith, free-zero e)
-        | no n ↦ let z : bit (c .care) i ≡ 0 = omega arith in omega (arith, free-one z, half)
-      ]
+    free-zero : bit care i ≡ 1 → free care i ≡ 0
+    free-zero e = free-is ∙ ap (λ (b : ℕ). bitXor (2 ^ i) (b * 2 ^ i)) e ∙ ap (bitXor (2 ^ i)) (one-mul (2 ^ i)) ∙ xor-self (2 ^ i)
 
-  ones-bit : bit (ones c) i ≡ bitAnd (bit (c .care) i) (bit (c .value) i)
-  ones-bit = and-bits (c .care) (c .value) i
+ones-bit : (c : Cube) (i : ℕ) → bit (ones c) i ≡ bitAnd (bit (c .care) i) (bit (c .value) i)
+ones-bit c i = and-bits (c .care) (c .value) i
 
 -- Factors in another order.
 swap : (m x y : ℕ) → m * x * y ≡ m * y * x
@@ -166,15 +165,15 @@ module _ {c : Cube} {i m : ℕ} (s : Widened c i m) (l : i < 6) where
   own = lt-of-le-of-lt (rw mul-one at (mul-le-mul-left m (pow-pos (ones c % 2 ^ i)))) (s .moved .small)
 
   -- With a literal the bits stay, without one they are there twice.
-  stays : bit (c .care) i ≡ 1 → bitOr m ((m * 2 ^ free c i) % 2 ^ 64) ≡ m
+  stays : bit (c .care) i ≡ 1 → bitOr m ((m * 2 ^ free (c .care) i) % 2 ^ 64) ≡ m
   stays e =
-      let h : m < 2 ^ 64 = lt-of-lt-of-le own (pow-mono {j = 64} (omega (arith, half c i l))) in
-      ap (λ (y : ℕ). bitOr m ((m * 2 ^ y) % 2 ^ 64)) (free-zero c i l e) ∙ ap (λ (y : ℕ). bitOr m (y % 2 ^ 64)) (mul-one m) ∙ ap (bitOr m) (mod-eq-of-lt h) ∙ or-self m
+      let h : m < 2 ^ 64 = lt-of-lt-of-le own (pow-mono {j = 64} (omega (arith, half i l))) in
+      ap (λ (y : ℕ). bitOr m ((m * 2 ^ y) % 2 ^ 64)) (free-zero i l (c .care) e) ∙ ap (λ (y : ℕ). bitOr m (y % 2 ^ 64)) (mul-one m) ∙ ap (bitOr m) (mod-eq-of-lt h) ∙ or-self m
 
-  twofold : bit (c .care) i ≡ 0 → bitOr m ((m * 2 ^ free c i) % 2 ^ 64) * below ≡ bitOr (m * below) (m * below * 2 ^ (2 ^ i))
+  twofold : bit (c .care) i ≡ 0 → bitOr m ((m * 2 ^ free (c .care) i) % 2 ^ 64) * below ≡ bitOr (m * below) (m * below * 2 ^ (2 ^ i))
   twofold e =
-      ap (λ (y : ℕ). bitOr m ((m * 2 ^ y) % 2 ^ 64) * below) (free-one c i l e)
-      ∙ ap (λ (y : ℕ). bitOr m y * below) (shl-exact (2 ^ i) (2 ^ i) 64 own (half c i l))
+      ap (λ (y : ℕ). bitOr m ((m * 2 ^ y) % 2 ^ 64) * below) (free-one i l (c .care) e)
+      ∙ ap (λ (y : ℕ). bitOr m y * below) (shl-exact (2 ^ i) (2 ^ i) 64 own (half i l))
       ∙ ap (λ (y : ℕ). y * below) (or-shifted-r m (2 ^ i) m own)
       ∙ add-mul (m * 2 ^ (2 ^ i)) m below
       ∙ ap (λ (y : ℕ). y + m * below) (swap m (2 ^ (2 ^ i)) below)
@@ -183,13 +182,13 @@ module _ {c : Cube} {i m : ℕ} (s : Widened c i m) (l : i < 6) where
   higher : m * 2 ^ (2 ^ i + ones c % 2 ^ i) ≡ m * below * 2 ^ (2 ^ i)
   higher = ap (λ (y : ℕ). m * y) (pow-add 2 (2 ^ i) (ones c % 2 ^ i)) ∙ sym (mul-assoc m (2 ^ (2 ^ i)) below) ∙ swap m (2 ^ (2 ^ i)) below
 
-  pub widened-more : Widened c (i + 1) (bitOr m ((m * 2 ^ free c i) % 2 ^ 64))
+  pub widened-more : Widened c (i + 1) (bitOr m ((m * 2 ^ free (c .care) i) % 2 ^ 64))
   widened-more = record { few = omega arith; moved = go (ℕ-discrete (bit (c .care) i) 1) (ℕ-discrete (bit (c .value) i) 1) }
     where
-      go : Dec (bit (c .care) i ≡ 1) → Dec (bit (c .value) i ≡ 1) → Marks c (i + 1) (bitOr m ((m * 2 ^ free c i) % 2 ^ 64) * 2 ^ (ones c % 2 ^ (i + 1)))
-      go (yes e) (yes v) = rw (stays e, index-one (ones c) i (ones-bit c i l ∙ rw (e, v)), higher) (marks-one (s .moved) e v)
-      go (yes e) (no v) = let z : bit (c .value) i ≡ 0 = omega arith in rw (stays e, index-zero (ones c) i (ones-bit c i l ∙ rw (e, z))) (marks-zero (s .moved) e z)
-      go (no e) v = let z : bit (c .care) i ≡ 0 = omega arith in rw (index-zero (ones c) i (ones-bit c i l ∙ rw z), twofold z) (marks-free (s .moved) z)
+      go : Dec (bit (c .care) i ≡ 1) → Dec (bit (c .value) i ≡ 1) → Marks c (i + 1) (bitOr m ((m * 2 ^ free (c .care) i) % 2 ^ 64) * 2 ^ (ones c % 2 ^ (i + 1)))
+      go (yes e) (yes v) = rw (stays e, index-one (ones c) i (ones-bit c i ∙ rw (e, v)), higher) (marks-one (s .moved) e v)
+      go (yes e) (no v) = let z : bit (c .value) i ≡ 0 = omega arith in rw (stays e, index-zero (ones c) i (ones-bit c i ∙ rw (e, z))) (marks-zero (s .moved) e z)
+      go (no e) v = let z : bit (c .care) i ≡ 0 = omega arith in rw (index-zero (ones c) i (ones-bit c i ∙ rw z), twofold z) (marks-free (s .moved) z)
 
 pub widened-end : {c : Cube} {i m : ℕ} → Widened c i m → 6 ≤ i → Marks c 6 ((m * 2 ^ (ones c % 64)) % 2 ^ 64)
 widened-end {c} {i} {m} s l =

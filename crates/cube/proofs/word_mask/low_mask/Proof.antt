@@ -21,7 +21,7 @@ cast-m : tie.Need-cast-m Inv-loop μ-loop
 cast-m c = search needs
 
 shl-m : tie.Need-shl-m Inv-loop μ-loop
-shl-m c = free-small (c .before .before .before .args .c) (c .before .before .loop .i) (omega arith)
+shl-m c = free-small (c .before .before .loop .i) (omega arith) (c .before .before .before .args .c .care)
 
 add-i : tie.Need-add-i Inv-loop μ-loop
 add-i c = search needs
