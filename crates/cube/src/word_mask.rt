@@ -3,8 +3,8 @@ ghost use Rattle.cube.specs.Mask.{Clean};
 ghost use Rattle.cube.specs.WordMask.{Marks, Words};
 use crate::mask::Cube;
 
-// The bits of a word that are points of the cube, by inputs 0 to 5: the sums of the weights of inputs without a literal, and from there
-// the literals' ones. No step has a branch: an input with a literal moves the bits by 0.
+// The bits of a word that are points of the cube, by inputs 0 to 5. An input without a literal sets the bits once more, moved by its
+// weight; at the end the literals that are 1 move them all. No step has a branch: an input with a literal moves the bits by 0.
 pub fn low_mask(c: Cube) -> u64
     ensures { λ r. ⌜ Marks c 6 r ⌝ }
 {
