@@ -8,3 +8,4 @@ pub mod Word
 pub mod Left
 pub mod WordMask
 pub mod Sweep
+pub mod ByWords
