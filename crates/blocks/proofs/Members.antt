@@ -10,7 +10,7 @@ use lib.Dec.{eqb}
 use lib.Count.{trailingZeros}
 use lib.Pow.{pow-pos, pow-mono}
 use Rattle.hazard.specs.Cube.{bit, flip}
-use Rattle.cube.proofs.WordMask.{Lowest, lowest-bit}
+use Rattle.cube.proofs.ByWords.{Lowest, lowest-bit}
 
 module _ (w : ℕ) (small : w < 2 ^ 64) (ne : w ≢ 0) where
   low : Lowest 64 w (trailingZeros 64 w)

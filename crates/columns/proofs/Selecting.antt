@@ -18,7 +18,8 @@ use Rattle.hazard.specs.Cube.{Cube, bit, inside}
 use Rattle.hazard.specs.Cover.{covered}
 use Rattle.hazard.specs.Search.{find}
 use Rattle.cube.proofs.Bits.{bit-case2, and-again}
-use Rattle.cube.proofs.WordMask.{no-bit, and-bits, xor-bits, lowest-bit}
+use Rattle.cube.proofs.WordMask.{no-bit, and-bits, xor-bits}
+use Rattle.cube.proofs.ByWords.{lowest-bit}
 use Rattle.columns.specs.Table.{Rows}
 use Rattle.columns.proofs.Words.{ones-bit}
 
