@@ -1,20 +1,20 @@
-use mathlib.Core.Path.{_≡_, refl, subst}
+use mathlib.Core.Path.{_≡_, refl, sym, _∙_, subst}
 use mathlib.Core.List.{map}
 use mathlib.Core.Option.{none}
 use native.Mathlib.Nat.{sub-zero}
 use native.Mathlib.Omega.{arith}
-use borrow.Author.Needs.{needs}
 use Rattle.cube.specs.Entry.{requiredIn, privilegedIn}
 use Rattle.cube.specs.PointSet.{inSet}
 use Rattle.minimiser.specs.Answer.{blockingOf}
 use Rattle.minimiser.specs.Choose.{Choice, Chosen}
-use Rattle.minimiser.proofs.Selecting.{chosen-small, chosen-few, kept-low, kept-whole, kept-few, kept-room, selected}
+use Rattle.minimiser.proofs.Selecting.{chosen-few, kept-low, kept-whole, kept-few, kept-room, selected}
 use Rattle.minimiser.proofs.Answering.{choice-refused, answered-written}
+use borrow.Author.Needs.{needs}
 use Rattle.minimiser.proofs.select.select.Statement.{statement}
 use Rattle.minimiser.proofs.select.select.Tie as tie
 
 choose-requires : tie.Need-choose-requires
-choose-requires c κs = search needs
+choose-requires c κs = let s = c .before .before .before .before .before .before .before .before .before .before .before .before .before .before in ((s .pre .0 .0, s .pre .0 .1, s .pre .0 .2, s .pre .0 .3, s .pre .0 .4), (s .pre .1 .0, s .pre .1 .1))
 
 enum-known-chosen : tie.Need-enum-known-chosen
 enum-known-chosen c = search needs
@@ -28,22 +28,28 @@ same-length c = search needs
 same-length-2 : tie.Need-same-length-2
 same-length-2 c = search needs
 
+same-length-3 : tie.Need-same-length-3
+same-length-3 c = search needs
+
+same-length-4 : tie.Need-same-length-4
+same-length-4 c = search needs
+
 returns : tie.Need-returns
 returns c =
-    let a = c .before .before .before .before .before .before .before .before .before .before .before .before .before .before .before .args in
-    let h = c .before .before .before .before .before .before .choose in
-    choice-refused (a .n) (a .off .now) (a .privileged .now) (a .required .now) (h .last .1 .1 .1 .1 .0) (h .last .1 .1 .1 .1 .1 .0) (a .cover .now) (h .ensures) (c .enum-told .given .1)
+    let a = c .before .before .before .before .before .before .before .before .before .before .before .before .before .before .before .before .before .before .before .before .before .before .before .before .before .args in
+    let h = c .before .before .before .before .before .before .before .before .before .before .choose in
+    choice-refused (a .n) (a .off .now) (a .privileged .now) (a .required .now) (h .last .1 .1 .1 .1 .1 .1 .1 .1 .0) (h .last .1 .1 .1 .1 .1 .1 .1 .1 .1 .0) (a .cover .now) (h .ensures) (c .enum-told .given .1)
 
 -- What was chosen.
 chosen-is : (c : tie.After-chosen)
-    → let a = c .before .before .before .before .before .before .before .before .before .before .before .before .before .before .before .args in
-    let h = c .before .before .before .before .before .before .choose in
+    → let a = c .before .before .before .before .before .before .before .before .before .before .before .before .before .before .before .before .before .before .before .before .before .before .before .before .before .args in
+    let h = c .before .before .before .before .before .before .before .before .before .before .choose in
     (blockingOf (a .n) (inSet (a .off .now)) (map (privilegedIn (a .n)) (a .privileged .now)) (map (requiredIn (a .n)) (a .required .now)) ≡ none)
-    × Chosen (a .n) (a .off .now) (a .privileged .now) (a .required .now) (h .last .1 .1 .1 .1 .0) (h .last .1 .1 .1 .1 .1 .0) (c .chosen .given .0 .0)
+    × Chosen (a .n) (a .off .now) (a .privileged .now) (a .required .now) (h .last .1 .1 .1 .1 .1 .1 .1 .1 .0) (h .last .1 .1 .1 .1 .1 .1 .1 .1 .1 .0) (c .chosen .given .0 .0)
 chosen-is c =
-    let a = c .before .before .before .before .before .before .before .before .before .before .before .before .before .before .before .args in
-    let h = c .before .before .before .before .before .before .choose in
-    subst (Choice (a .n) (a .off .now) (a .privileged .now) (a .required .now) (h .last .1 .1 .1 .1 .0) (h .last .1 .1 .1 .1 .1 .0)) (c .chosen .given .1) (h .ensures)
+    let a = c .before .before .before .before .before .before .before .before .before .before .before .before .before .before .before .before .before .before .before .before .before .before .before .before .before .args in
+    let h = c .before .before .before .before .before .before .before .before .before .before .choose in
+    subst (Choice (a .n) (a .off .now) (a .privileged .now) (a .required .now) (h .last .1 .1 .1 .1 .1 .1 .1 .1 .0) (h .last .1 .1 .1 .1 .1 .1 .1 .1 .1 .0)) (c .chosen .given .1) (h .ensures)
 
 sub-kept-from : tie.Need-sub-kept-from
 sub-kept-from c = search needs
@@ -56,11 +62,14 @@ part-kept-from-end c = search (needs, chosen-is (c .before .before) .1 .low)
 
 kept-from-requires : tie.Need-kept-from-requires
 kept-from-requires c κs =
-    let h = chosen-is (c .before .before .before) .1 in
-    (rw (sub-zero (c .before .before .before .chosen .given .0 .0)) (h .noted), rw (sub-zero (c .before .before .before .chosen .given .0 .0)) (chosen-small h))
+    let s = c .before .before .before .before .before .before .before .before .before .before .before .before .before .before .before .before .before .before .before .before .before .before .before .before .before .before .before .before .before .before in
+    let t = c .before .before .before .before .before .before .before .before .before .before .before .before .before .before .before .choose in
+    let h = chosen-is (c .before .before .before .before .before) .1 in
+    let e = t .kept .1 .1 .1 .1 .1 .1 .0 in
+    ((s .pre .0 .0 .few, rw (sub-zero (c .before .before .before .before .before .chosen .given .0 .0)) (h .noted), s .pre .1 .0 .0), (omega (arith, e, s .pre .1 .0 .1), omega (arith, e, s .pre .1 .0 .2), t .kept .1 .1 .1 .1 .1 .1 .1 .0 ∙ s .pre .1 .0 .3 ∙ sym e))
 
 mul-write-network : tie.Need-mul-write-network
-mul-write-network c = let h = chosen-is (c .before .before .before .before .before .before) .1 in omega (arith, kept-low h (c .before .before .kept-from .ensures), chosen-few h, c .before .before .before .before .before .before .before .before .before .before .before .before .before .before .before .before .before .before .before .before .before .pre .0 .1)
+mul-write-network c = let h = chosen-is (c .before .before .before .before .before .before .before .before .before .before .before .before) .1 in omega (arith, kept-low h (c .before .before .before .before .before .before .kept-from .ensures), chosen-few h, c .before .before .before .before .before .before .before .before .before .before .before .before .before .before .before .before .before .before .before .before .before .before .before .before .before .before .before .before .before .before .before .before .before .before .before .before .before .pre .0 .2)
 
 sub-write-network : tie.Need-sub-write-network
 sub-write-network c = search needs
@@ -69,32 +78,38 @@ part-write-network-start : tie.Need-part-write-network-start
 part-write-network-start c = search needs
 
 part-write-network-end : tie.Need-part-write-network-end
-part-write-network-end c = kept-whole (chosen-is (c .before .before .before .before .before .before .before) .1) (c .before .before .before .kept-from .ensures) _
+part-write-network-end c = kept-whole (chosen-is (c .before .before .before .before .before .before .before .before .before .before .before .before .before) .1) (c .before .before .before .before .before .before .before .kept-from .ensures) _
 
 write-network-requires : tie.Need-write-network-requires
 write-network-requires c κs =
-    let s = c .before .before .before .before .before .before .before .before .before .before .before .before .before .before .before .before .before .before .before .before .before .before .before .before in
-    let h = chosen-is (c .before .before .before .before .before .before .before .before .before) .1 in
-    let k = c .before .before .before .before .before .kept-from in
-    (s .pre .0 .0 .few, kept-few h (k .ensures) _ (s .pre .0 .1), kept-room h (k .ensures) _ (s .pre .0 .4))
+    let s = c .before .before .before .before .before .before .before .before .before .before .before .before .before .before .before .before .before .before .before .before .before .before .before .before .before .before .before .before .before .before .before .before .before .before .before .before .before .before .before .before in
+    let h = chosen-is (c .before .before .before .before .before .before .before .before .before .before .before .before .before .before .before) .1 in
+    let k = c .before .before .before .before .before .before .before .before .before .kept-from in
+    (s .pre .0 .0 .few, kept-few h (k .ensures) _ (s .pre .0 .2), kept-room h (k .ensures) _ (s .pre .0 .5))
 
-sub-t18 : tie.Need-sub-t18
-sub-t18 c = search needs
-
-same-length-3 : tie.Need-same-length-3
-same-length-3 c = search needs
-
-same-length-4 : tie.Need-same-length-4
-same-length-4 c = search needs
+sub-t26 : tie.Need-sub-t26
+sub-t26 c = search needs
 
 same-length-5 : tie.Need-same-length-5
 same-length-5 c = search needs
 
+same-length-6 : tie.Need-same-length-6
+same-length-6 c = search needs
+
+same-length-7 : tie.Need-same-length-7
+same-length-7 c = search needs
+
+same-length-8 : tie.Need-same-length-8
+same-length-8 c = search needs
+
+same-length-9 : tie.Need-same-length-9
+same-length-9 c = search needs
+
 returns-2 : tie.Need-returns-2
 returns-2 c =
-    let a = c .before .before .before .before .before .before .before .before .before .before .before .before .before .before .before .before .before .before .before .before .before .before .before .before .before .before .before .args in
-    let h = chosen-is (c .before .before .before .before .before .before .before .before .before .before .before .before) in
-    let k = c .before .before .before .before .before .before .before .before .kept-from in
+    let a = c .before .before .before .before .before .before .before .before .before .before .before .before .before .before .before .before .before .before .before .before .before .before .before .before .before .before .before .before .before .before .before .before .before .before .before .before .before .before .before .before .before .before .before .args in
+    let h = chosen-is (c .before .before .before .before .before .before .before .before .before .before .before .before .before .before .before .before .before .before) in
+    let k = c .before .before .before .before .before .before .before .before .before .before .before .before .kept-from in
     answered-written (a .n) (inSet (a .off .now)) (map (privilegedIn (a .n)) (a .privileged .now)) (map (requiredIn (a .n)) (a .required .now)) (h .0)
     (selected (h .1) (k .ensures) _ _ _ _ (c .before .before .write-network .ensures) refl)
 
@@ -107,6 +122,8 @@ select-spec =
     enum-told
     same-length
     same-length-2
+    same-length-3
+    same-length-4
     returns
     sub-kept-from
     part-kept-from-start
@@ -117,8 +134,10 @@ select-spec =
     part-write-network-start
     part-write-network-end
     write-network-requires
-    sub-t18
-    same-length-3
-    same-length-4
+    sub-t26
     same-length-5
+    same-length-6
+    same-length-7
+    same-length-8
+    same-length-9
     returns-2)
