@@ -38,7 +38,7 @@ fn cover_with(
     cover: &mut [u8],
 ) -> Minimised
     requires { ⌜ Ready n (now table) (now transitions) × (length (sets.required n (now table) (now transitions)) ≤ 2048) × (length (sets.required n (now table) (now transitions)) * n ≤ length (now cover)) ⌝ }
-    requires { ⌜ (length (now off) ≡ 16) × (64 ≤ length (now privileged)) × (length (now legal) ≡ 60) × Room (length (sets.required n (now table) (now transitions))) (now required) (now firsts) (now products) × Columns (length (sets.required n (now table) (now transitions))) (now columns) (now left) (now taken) ⌝ }
+    requires { ⌜ (length (now off) ≡ 16) × (length (now privileged) ≡ 64) × (length (now legal) ≡ 60) × Room (length (sets.required n (now table) (now transitions))) (now required) (now firsts) (now products) × Columns (length (sets.required n (now table) (now transitions))) (now columns) (now left) (now taken) ⌝ }
     ensures { λ r. ⌜ Answered n (transition.off (now (table .entry))) (sets.privileged n (now (table .entry)) (now (transitions .entry))) (sets.required n (now (table .entry)) (now (transitions .entry))) (now (cover .entry)) (now (cover .exit)) (minimisedOf r) ⌝ }
 {
     let s = sets_into(n, table, transitions, off, privileged, required);

@@ -1,8 +1,7 @@
-use mathlib.Core.Path.{refl}
-use native.Mathlib.Nat.{le-refl}
+use Rattle.minimiser.proofs.Rooms.{room-of, columns-of}
 use native.Mathlib.Omega.{arith}
+use mathlib.Core.Path.{refl}
 use borrow.Author.Needs.{needs}
-use Rattle.minimiser.proofs.Rooms.{room-of}
 use Rattle.minimiser.proofs.network.cover_few.Statement.{statement}
 use Rattle.minimiser.proofs.network.cover_few.Tie as tie
 
@@ -21,10 +20,22 @@ slice-aggregate-cover-with-4 c = search needs
 slice-aggregate-cover-with-5 : tie.Need-slice-aggregate-cover-with-5
 slice-aggregate-cover-with-5 c = search needs
 
+slice-aggregate-cover-with-6 : tie.Need-slice-aggregate-cover-with-6
+slice-aggregate-cover-with-6 c = search needs
+
+slice-aggregate-cover-with-7 : tie.Need-slice-aggregate-cover-with-7
+slice-aggregate-cover-with-7 c = search needs
+
+slice-aggregate-cover-with-8 : tie.Need-slice-aggregate-cover-with-8
+slice-aggregate-cover-with-8 c = search needs
+
+slice-aggregate-cover-with-9 : tie.Need-slice-aggregate-cover-with-9
+slice-aggregate-cover-with-9 c = search needs
+
 cover-with-requires : tie.Need-cover-with-requires
 cover-with-requires c κs =
-    let s = c .before .before .before .before .before .before .before .before .before in
-    ((s .pre .0, omega (arith, s .pre .1), s .pre .2), (refl, le-refl 64, room-of 64 (s .pre .1)))
+    let s = c .before .before .before .before .before .before .before .before .before .before .before .before .before in
+    ((s .pre .0, omega (arith, s .pre .1), s .pre .2), (refl, refl, refl, room-of 64 (s .pre .1), columns-of 1 (omega arith) (omega (arith, s .pre .1))))
 
 same-length : tie.Need-same-length
 same-length c = search needs
@@ -41,6 +52,10 @@ cover-few-spec =
     slice-aggregate-cover-with-3
     slice-aggregate-cover-with-4
     slice-aggregate-cover-with-5
+    slice-aggregate-cover-with-6
+    slice-aggregate-cover-with-7
+    slice-aggregate-cover-with-8
+    slice-aggregate-cover-with-9
     cover-with-requires
     same-length
     returns)
