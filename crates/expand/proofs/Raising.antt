@@ -1,12 +1,19 @@
 -- The loop that raises a cube's literals.
-use mathlib.Core.Path.{_≡_}
-use mathlib.Core.Bool.{Bool}
+use mathlib.Core.Path.{_≡_, ap, _∙_}
+use mathlib.Core.Logic.{_≢_}
+use mathlib.Core.Bool.{Bool, true, false, cond}
 use mathlib.Core.List.{List}
 use Prim.Native.Nat.{ℕ, suc, _+_, _-_, _≤_, _<_}
 use native.Mathlib.Nat.{sub-zero, sub-eq-zero-of-le}
 use native.Mathlib.Numerals.{add-one}
 use native.Mathlib.Omega.{arith}
-use Rattle.hazard.specs.Cube.{Cube}
+use lib.Dec.{eqb}
+use lib.ListN.{getD}
+use borrow.Author.Tests.{ne-eqb}
+use Rattle.hazard.specs.Cube.{Cube, bit}
+use Rattle.hazard.proofs.Point.{bit-lt}
+use Rattle.cube.specs.Mask.{digitsOf}
+use Rattle.cube.proofs.Digits.{digit-at}
 use Rattle.hazard.specs.Sets.{Privileged}
 use Rattle.hazard.specs.Expansion.{raise, expandFrom, expand}
 
@@ -27,3 +34,12 @@ module _ {n : ℕ} {off : ℕ → Bool} {vs : List Privileged} {p q : Cube} {i :
 
   pub raising-end : n ≤ i → p ≡ q
   raising-end h = rw (r .rest, sub-eq-zero-of-le h)
+
+-- Whether input i has a literal.
+pub absent-digit : (n care value i : ℕ) → i < n → bit care i ≡ 0 → eqb (getD (digitsOf n care value) i 0) 2 ≡ true
+absent-digit n care value i l e = ap (λ (d : ℕ). eqb d 2) (digit-at n care value i l ∙ ap (λ (b : ℕ). cond (eqb b 0) 2 (bit value i)) e)
+
+pub literal-digit : (n care value i : ℕ) → i < n → bit care i ≢ 0 → eqb (getD (digitsOf n care value) i 0) 2 ≡ false
+literal-digit n care value i l ne =
+    ap (λ (d : ℕ). eqb d 2) (digit-at n care value i l ∙ ap (λ (b : Bool). cond b 2 (bit value i)) (ne-eqb (bit care i) 0 ne))
+    ∙ ne-eqb (bit value i) 2 (λ e. omega (arith, e, bit-lt value i))

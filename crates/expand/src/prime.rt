@@ -13,6 +13,7 @@ use crate::growth::grow;
 use cube::mask::Cube;
 use cube::mask::raised;
 use cube::mask::supercube_of;
+use cube::point::bit_of;
 
 // The grown cube where growth ended legal, else the cube that was there before.
 fn grown_or(c: Cube, grown: Grown) -> Cube
@@ -24,13 +25,16 @@ fn grown_or(c: Cube, grown: Grown) -> Cube
     }
 }
 
-// The literal of input i raised, and the cube grown, where that ends legal.
+// The literal of input i raised, and the cube grown, where there is one and that ends legal.
 fn raise(n: usize, off: &[u64], privileged: &[u64], columns: &[u64], c: Cube, i: usize) -> Cube
     requires { ⌜ Ready n (now off) ⌝ }
     requires { ⌜ Columns n (now privileged) (now columns) ⌝ }
     requires { ⌜ Clean n c × (i < n) ⌝ }
     ensures { λ r. ⌜ Stands n r (spec.raise n (inSet (now (off .entry))) (map (privilegedIn n) (now (privileged .entry))) (cubeOf n c) i) ⌝ }
 {
+    if bit_of(c.care, i) == 0 {
+        return c;
+    }
     grown_or(c, grow(n, off, privileged, columns, raised(c, i)))
 }
 

@@ -1,8 +1,9 @@
 -- Expansion of a dhf-implicant to a dhf-prime, literal by literal. Which dhf-prime comes out is free; this is the one that the code takes.
-use mathlib.Core.Bool.{Bool}
+use mathlib.Core.Bool.{Bool, cond}
 use mathlib.Core.List.{List}
 use Prim.Native.Nat.{ℕ, zero, suc}
-use lib.ListN.{set}
+use lib.Dec.{eqb}
+use lib.ListN.{getD, set}
 use Rattle.hazard.specs.Cube.{Cube, supercube}
 use Rattle.hazard.specs.Sets.{Privileged}
 use Rattle.hazard.specs.Growth.{Growth, Legal, Blocked, grow}
@@ -13,9 +14,9 @@ grownOr p (Legal c s) = c
 grownOr p (Blocked z s) = p
 
 module _ (n : ℕ) (off : ℕ → Bool) (vs : List Privileged) where
-  -- The literal of input i raised, and the cube grown, where that ends legal.
+  -- The literal of input i raised, and the cube grown, where there is one and that ends legal.
   abbrev pub raise : Cube → ℕ → Cube
-  raise p i = grownOr p (grow n off vs (set p i 2))
+  raise p i = cond (eqb (getD p i 0) 2) p (grownOr p (grow n off vs (set p i 2)))
 
   -- The m literals from input i on raised, one after the other.
   abbrev pub expandFrom : ℕ → ℕ → Cube → Cube
