@@ -42,7 +42,7 @@ pub fn choose(
         let r = i;
         i += 1;
         if firsts[r] == NONE {
-            let made = product_for(n, off, privileged, legal, required, firsts, r);
+            let made = product_for(n, off, privileged, legal, required, columns, left, r);
             match made {
                 Made::Blocked(q) => return Minimised::Refused(q),
                 Made::Product(c) => {

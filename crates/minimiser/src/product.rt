@@ -1,7 +1,7 @@
 // The product that is chosen for a required cube.
 ghost use mathlib.Core.Path.{_≡_};
 ghost use mathlib.Core.List.{map};
-ghost use Prim.Native.Nat.{ℕ, _≤_, _<_};
+ghost use Prim.Native.Nat.{ℕ, _*_, _≤_, _<_};
 ghost use lib.Dec.{T};
 ghost use lib.ListN.{length, getD};
 ghost use Rattle.hazard.specs.Implicant.{dhfImplicant};
@@ -11,7 +11,8 @@ ghost use Rattle.cube.specs.PointSet.{inSet};
 ghost use Rattle.expand.specs.Ready.{Ready};
 ghost use Rattle.expand.specs.Columns.{Columns};
 ghost use Rattle.minimiser.specs.Product.{Over, PrimeOver, MadeFor};
-use choice::first::NONE;
+use blocks::member::without_lowest;
+use crate::near::near;
 use cube::entry::cube_in;
 use cube::mask::Cube;
 use cube::mask::lies_inside;
@@ -22,67 +23,56 @@ use expand::prime::absorbed;
 use expand::prime::expanded;
 use problem::refusal::Refusal;
 
-// The cube grown over a further required cube, where that ends legal. A required cube that lies in a product already needs no other, so
-// it is not tried.
+// The cube grown over required cube k, where that ends legal; nothing to do where it lies inside already.
 fn grown_over(
     n: usize,
     off: &[u64],
     privileged: &[u64],
     legal: &[u64],
+    required: &[u64],
     c: Cube,
-    w: u64,
-    first: u16,
+    k: usize,
 ) -> Cube
     requires { ⌜ Ready n (now off) × Columns n (now privileged) (now legal) ⌝ }
     requires { ⌜ Clean n c ⌝ }
     ensures { λ r. ⌜ Over n (now (off .entry)) (now (privileged .entry)) c r ⌝ }
 {
-    if first != NONE {
+    if required.len() <= k {
         return c;
     }
-    let d = cube_in(w);
+    let d = cube_in(required[k]);
     if lies_inside(d, c) {
         return c;
     }
     absorbed(n, off, privileged, legal, c, d)
 }
 
-// So many required cubes are tried with a product, its own and the next ones. Trying all would make the time grow with their square.
-const REACH: usize = 32;
-
-// Where the trying ends.
-fn reach_of(i: usize, count: usize) -> usize
-    requires { ⌜ i < count ⌝ }
-    ensures { λ r. ⌜ r ≤ count ⌝ }
-{
-    if count - i <= REACH {
-        return count;
-    }
-    i + REACH
-}
-
-// The dhf-implicant c grown over those required cubes after place i that lie in no product yet, where that stays legal, and expanded to
-// a dhf-prime. The growth over the others makes for fewer products; no promise rests on it.
+// The dhf-implicant c grown over required cubes near it that lie in no product yet, where that stays legal, and expanded to a dhf-prime.
+// Those of the block of required cube i are tried, which is what c was made for; `columns` has the required cubes for its rows, and `left`
+// is the set of those in no product. The growth over the others makes for fewer products; no promise rests on it.
 fn widened(
     n: usize,
     off: &[u64],
     privileged: &[u64],
     legal: &[u64],
     required: &[u64],
-    firsts: &[u16],
+    columns: &[u64],
+    left: &[u64],
     i: usize,
     c: Cube,
 ) -> Cube
-    requires { ⌜ Ready n (now off) × Columns n (now privileged) (now legal) × (i < length (now required)) × (length (now firsts) ≡ length (now required)) ⌝ }
+    requires { ⌜ Ready n (now off) × Columns n (now privileged) (now legal) ⌝ }
+    requires { ⌜ (length (now columns) ≡ 960) × (length (now left) ≤ 32) × (i < 64 * length (now left)) ⌝ }
     requires { ⌜ Clean n c × T (dhfImplicant n (inSet (now off)) (map (privilegedIn n) (now privileged)) (cubeOf n c)) ⌝ }
     ensures { λ r. ⌜ PrimeOver n (now (off .entry)) (now (privileged .entry)) (cubeOf n c) r ⌝ }
 {
+    let b = i / 64;
     let mut p = c;
-    let end = reach_of(i, required.len());
-    let mut k = i + 1;
-    while k < end {
-        p = grown_over(n, off, privileged, legal, p, required[k], firsts[k]);
-        k += 1;
+    let mut tries = left[b] & near(n, columns, b, c);
+    while tries != 0 {
+        let k = 64 * b + u64::trailing_zeros(tries) as usize;
+        p = grown_over(n, off, privileged, legal, required, p, k);
+        tries = without_lowest(tries);
     }
     expanded(n, off, privileged, legal, p)
 }
@@ -100,10 +90,12 @@ pub fn product_for(
     privileged: &[u64],
     legal: &[u64],
     required: &[u64],
-    firsts: &[u16],
+    columns: &[u64],
+    left: &[u64],
     i: usize,
 ) -> Made
-    requires { ⌜ Ready n (now off) × Columns n (now privileged) (now legal) × (i < length (now required)) × (length (now firsts) ≡ length (now required)) ⌝ }
+    requires { ⌜ Ready n (now off) × Columns n (now privileged) (now legal) × (i < length (now required)) ⌝ }
+    requires { ⌜ (length (now columns) ≡ 960) × (length (now left) ≤ 32) × (i < 64 * length (now left)) ⌝ }
     requires { ⌜ ((k : ℕ) → CleanWord n (getD (now required) k 0)) ⌝ }
     ensures { λ r. ⌜ MadeFor n (now (off .entry)) (now (privileged .entry)) (getD (now (required .entry)) i 0) r ⌝ }
 {
@@ -112,7 +104,7 @@ pub fn product_for(
     let grown = grow(n, off, privileged, legal, cube);
     match grown {
         Grown::Legal(c, _) => Made::Product(widened(
-            n, off, privileged, legal, required, firsts, i, c,
+            n, off, privileged, legal, required, columns, left, i, c,
         )),
         Grown::Blocked(z, s) => Made::Blocked(refusal_of(w, z, s)),
     }

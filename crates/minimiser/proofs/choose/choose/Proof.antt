@@ -51,7 +51,11 @@ slice-read-if1 : tie.Need-slice-read-if1 Inv-loop μ-loop
 slice-read-if1 c = omega (arith, c .before .before .loop .inv .0 .choosing .whole, c .before .loop-test .taken)
 
 product-for-requires : tie.Need-product-for-requires Inv-loop μ-loop
-product-for-requires c κs = let s = c .before .before .before .before .before .before .before .before .before .before .before .before .before .before .before .before .before .before in let l = c .before .before .before .before .loop in ((s .pre .0 .0, s .pre .0 .1, c .before .before .before .loop-test .taken, l .inv .0 .choosing .whole), s .pre .1 .1 .0)
+product-for-requires c κs =
+    let s = c .before .before .before .before .before .before .before .before .before .before .before .before .before .before .before .before .before .before in
+    let l = c .before .before .before .before .loop in
+    let w = c .before .before .before .before .before .before .before .whole-into in
+    ((s .pre .0 .0, s .pre .0 .1, c .before .before .before .loop-test .taken), ((s .pre .1 .0 .0 .long, omega (arith, l .inv .3, w .kept .1 .0, s .pre .1 .0 .1), omega (arith, l .inv .3, w .kept .1 .0, s .pre .1 .0 .2, c .before .before .before .loop-test .taken)), s .pre .1 .1 .0))
 
 enum-known-made : tie.Need-enum-known-made Inv-loop μ-loop
 enum-known-made c = search needs

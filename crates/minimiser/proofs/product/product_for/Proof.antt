@@ -1,6 +1,5 @@
 use mathlib.Core.Path.{refl, sym, ap, _∙_, subst}
 use lib.ListN.{getD}
-use borrow.Author.Needs.{needs}
 use Rattle.hazard.specs.Cube.{Cube}
 use Rattle.hazard.specs.Minimal.{blockedBy}
 use Rattle.cube.specs.Entry.{requiredIn}
@@ -10,6 +9,7 @@ use Rattle.expand.specs.Answer.{grownOf, Grows}
 use Rattle.expand.proofs.Outcome.{checked}
 use Rattle.choice.specs.Network.{cubeIn}
 use Rattle.minimiser.proofs.Products.{masks-digits, stage-legal, stage-prime}
+use borrow.Author.Needs.{needs}
 use Rattle.minimiser.proofs.product.product_for.Statement.{statement}
 use Rattle.minimiser.proofs.product.product_for.Tie as tie
 
@@ -23,24 +23,24 @@ cube-in-requires : tie.Need-cube-in-requires
 cube-in-requires c κs = search needs
 
 grow-requires : tie.Need-grow-requires
-grow-requires c κs = let s = c .before .before .before .before .before .before .before in (s .pre .0 .0, (s .pre .0 .1, stands-in (s .pre .1 (s .args .i)) (c .cube-in .ensures) .fits))
-
--- The growth of the required cube.
-grows : (c : tie.After-grow)
-    → let a = c .before .before .before .before .before .before .before .before .args in Grows (a .n) (a .off .now) (a .privileged .now) (cubeIn (a .n) (getD (a .required .now) (a .i) 0)) (c .grow .result)
-grows c =
-    let s = c .before .before .before .before .before .before .before .before in
-    let w = getD (s .args .required .now) (s .args .i) 0 in
-    subst (λ (q : Cube). Grows (s .args .n) (s .args .off .now) (s .args .privileged .now) q (c .grow .result)) (stands-in {w = w} (s .pre .1 (s .args .i)) (c .before .cube-in .ensures) .is) (c .grow .ensures)
+grow-requires c κs = let s = c .before .before .before .before .before .before .before .before in (s .pre .0 .0, (s .pre .0 .1, stands-in (s .pre .1 .1 (s .args .i)) (c .cube-in .ensures) .fits))
 
 enum-known-grown : tie.Need-enum-known-grown
 enum-known-grown c = search needs
 
+-- The growth of the required cube.
+grows : (c : tie.After-grow)
+    → let a = c .before .before .before .before .before .before .before .before .before .args in Grows (a .n) (a .off .now) (a .privileged .now) (cubeIn (a .n) (getD (a .required .now) (a .i) 0)) (c .grow .result)
+grows c =
+    let s = c .before .before .before .before .before .before .before .before .before in
+    let w = getD (s .args .required .now) (s .args .i) 0 in
+    subst (λ (q : Cube). Grows (s .args .n) (s .args .off .now) (s .args .privileged .now) q (c .grow .result)) (stands-in {w = w} (s .pre .1 .1 (s .args .i)) (c .before .cube-in .ensures) .is) (c .grow .ensures)
+
 widened-requires : tie.Need-widened-requires
 widened-requires c κs =
-    let s = c .before .before .before .before .before .before .before .before .before .before .before in
+    let s = c .before .before .before .before .before .before .before .before .before .before .before .before in
     let t = stage-legal (s .args .n) (s .args .off .now) (s .args .privileged .now) (masks-digits (s .args .n) _ _) (grows (c .before .before .before)) (c .before .grown .given .1) in
-    (s .pre .0, (t .fits, t .dhf))
+    ((s .pre .0 .0, s .pre .0 .1), (s .pre .1 .0, (t .fits, t .dhf)))
 
 enum-known-grown-2 : tie.Need-enum-known-grown-2
 enum-known-grown-2 c = search needs
@@ -50,13 +50,13 @@ refusal-of-requires c κs = search needs
 
 returns : tie.Need-returns
 returns c =
-    let a = c .before .before .before .before .before .before .before .before .before .before .before .before .args in
+    let a = c .before .before .before .before .before .before .before .before .before .before .before .before .before .args in
     let t = stage-legal (a .n) (a .off .now) (a .privileged .now) (masks-digits (a .n) _ _) (grows (c .before .before .before .before)) (c .before .before .grown .given .1) in
     stage-prime (a .n) (a .off .now) (a .privileged .now) t (c .widened .ensures)
 
 returns-2 : tie.Need-returns-2
 returns-2 c =
-    let a = c .before .before .before .before .before .before .before .before .before .before .before .before .args in
+    let a = c .before .before .before .before .before .before .before .before .before .before .before .before .before .args in
     let r = requiredIn (a .n) (getD (a .required .now) (a .i) 0) in
     sym (checked r (grows (c .before .before .before .before)) refl) ∙ ap (λ (g : Grown). blockedBy r (grownOf (a .n) g)) (c .before .before .grown2 .given .1) ∙ c .refusal-of .ensures (a .n)
 

@@ -1,0 +1,42 @@
+// Which required cubes are worth trying with a product. Any answer is right: no promise rests on it.
+ghost use mathlib.Core.Path.{_≡_};
+ghost use Prim.Native.Nat.{_≤_, _<_};
+ghost use lib.ListN.{length};
+use columns::query::digit_at;
+use cube::mask::Cube;
+
+// The rows of block b with a literal of input i that the supercube with the cube loses.
+fn losing(columns: &[u64], b: usize, c: Cube, i: usize) -> u64
+    requires { ⌜ (length (now columns) ≡ 960) × (b < 32) × (i < 10) ⌝ }
+{
+    let zero = columns[96 * i + b];
+    let one = columns[96 * i + 32 + b];
+    let d = digit_at(c, i);
+    if d == 0 {
+        return one;
+    }
+    if d == 1 {
+        return zero;
+    }
+    zero | one
+}
+
+// The rows of block b that lose at most three literals: supercubes with the others mostly have a zero. The literals are counted for all 64
+// rows at once, in two bits each; `many` has those that lose more.
+pub(crate) fn near(n: usize, columns: &[u64], b: usize, c: Cube) -> u64
+    requires { ⌜ (n ≤ 10) × (length (now columns) ≡ 960) × (b < 32) ⌝ }
+{
+    let mut low = 0u64;
+    let mut high = 0u64;
+    let mut many = 0u64;
+    let mut i = 0;
+    while i < n {
+        let lost = losing(columns, b, c, i);
+        let carry = low & lost;
+        low = low ^ lost;
+        many = many | (high & carry);
+        high = high ^ carry;
+        i += 1;
+    }
+    u64::MAX ^ many
+}
