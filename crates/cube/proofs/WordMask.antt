@@ -29,26 +29,26 @@ use Rattle.cube.proofs.Bits.{bit-case2, and-last, xor-last, half-lt}
 use Rattle.cube.proofs.Masks.{has-masks}
 
 -- Bits of a number of two parts.
-high-bit : (a k r : ℕ) {b : ℕ} → b < 2 ^ k → bit (a * 2 ^ k + b) (k + r) ≡ bit a r
+pub high-bit : (a k r : ℕ) {b : ℕ} → b < 2 ^ k → bit (a * 2 ^ k + b) (k + r) ≡ bit a r
 high-bit a k r {b} h = ap (λ (y : ℕ). y % 2) (sym (shr-shr (a * 2 ^ k + b) k r) ∙ ap (λ (y : ℕ). y / 2 ^ r) (high a k h))
 
-mod-bit : (y j r : ℕ) → bit (y % 2 ^ (suc j + r)) r ≡ bit y r
+pub mod-bit : (y j r : ℕ) → bit (y % 2 ^ (suc j + r)) r ≡ bit y r
 mod-bit y j r = ap (λ (z : ℕ). z % 2) (field y (suc j) r) ∙ (rw (add-one j) at (mod-mod-pow (y / 2 ^ r) j 1))
 
-low-bit : (a k r : ℕ) {b : ℕ} → r < k → b < 2 ^ k → bit (a * 2 ^ k + b) r ≡ bit b r
+pub low-bit : (a k r : ℕ) {b : ℕ} → r < k → b < 2 ^ k → bit (a * 2 ^ k + b) r ≡ bit b r
 low-bit a k r {b} l h =
     let e : k ≡ suc (k - (r + 1)) + r = omega arith in
     sym (subst (λ (j : ℕ). bit ((a * 2 ^ k + b) % 2 ^ j) r ≡ bit (a * 2 ^ k + b) r) (sym e) (mod-bit (a * 2 ^ k + b) (k - (r + 1)) r))
     ∙ ap (λ (y : ℕ). bit y r) (low a k h)
 
 -- A number that is 0 has no bit.
-no-bit : (a i : ℕ) → a ≡ 0 → bit a i ≡ 0
+pub no-bit : (a i : ℕ) → a ≡ 0 → bit a i ≡ 0
 no-bit a i e = ap (λ (y : ℕ). bit y i) e ∙ ap (λ (y : ℕ). y % 2) (zero-div (2 ^ i))
 
-and-bits : (a b i : ℕ) → bit (bitAnd a b) i ≡ bitAnd (bit a i) (bit b i)
+pub and-bits : (a b i : ℕ) → bit (bitAnd a b) i ≡ bitAnd (bit a i) (bit b i)
 and-bits a b i = ap (λ (y : ℕ). y % 2) (and-shr a b i) ∙ and-last (a / 2 ^ i) (b / 2 ^ i)
 
-xor-bits : (a b i : ℕ) → bit (bitXor a b) i ≡ bitXor (bit a i) (bit b i)
+pub xor-bits : (a b i : ℕ) → bit (bitXor a b) i ≡ bitXor (bit a i) (bit b i)
 xor-bits a b i = ap (λ (y : ℕ). y % 2) (xor-shr a b i) ∙ xor-last (a / 2 ^ i) (b / 2 ^ i)
 
 -- The bit of a point, with one input more.
@@ -133,11 +133,11 @@ pub marks-start : (c : Cube) → Marks c 0 1
 marks-start c = record { small = omega arith; marks = λ x. rw (mod-one, mod-one) }
 
 -- The differences of a point, by its word and by its bit.
-differs-word : (c : Cube) (x : ℕ) → differs c x / 64 ≡ bitAnd (bitXor (x / 64) (c .value / 64)) (c .care / 64)
+pub differs-word : (c : Cube) (x : ℕ) → differs c x / 64 ≡ bitAnd (bitXor (x / 64) (c .value / 64)) (c .care / 64)
 differs-word c x = and-shr (bitXor x (c .value)) (c .care) 6 ∙ ap (λ (y : ℕ). bitAnd y (c .care / 64)) (xor-shr x (c .value) 6)
 
 -- A bit of an `and`, as a test.
-both-bits : (a b : ℕ) → eqb (bitAnd (a % 2) (b % 2)) 1 ≡ (eqb (b % 2) 1 && eqb (a % 2) 1)
+pub both-bits : (a b : ℕ) → eqb (bitAnd (a % 2) (b % 2)) 1 ≡ (eqb (b % 2) 1 && eqb (a % 2) 1)
 both-bits = bit-case2 (λ a b. eqb (bitAnd a b) 1 ≡ (eqb b 1 && eqb a 1)) refl refl refl refl
 
 module _ (words : List ℕ) (c : Cube) (w : ℕ) where
@@ -191,7 +191,7 @@ pub record Looked (words : List ℕ) (c : Cube) (w : ℕ) : Type 0 where
 pub looked-start : (words : List ℕ) (c : Cube) → Looked words c 0
 looked-start words c = record { none = λ x l. absurd (omega arith) }
 
-first-at : (test : ℕ → Bool) (x size : ℕ) → test x ≡ true → x < size → ((y : ℕ) → y < x → test y ≡ false) → some x ≡ first test 0 size
+pub first-at : (test : ℕ → Bool) (x size : ℕ) → test x ≡ true → x < size → ((y : ℕ) → y < x → test y ≡ false) → some x ≡ first test 0 size
 first-at test x size e l h = go (first test 0 size) (first-is test 0 size)
   where
     go : (o : Option ℕ) → First test 0 size o → some x ≡ o
@@ -202,7 +202,7 @@ first-at test x size e l h = go (first test 0 size) (first-is test 0 size)
           | no i ↦ elim (decLt x y) [ yes j ↦ absurd (k x (omega arith) j (so e)) | no j ↦ let q : x ≡ y = omega (arith, i, j) in ap some q ]
         ]
 
-first-not : (test : ℕ → Bool) (size : ℕ) → ((y : ℕ) → y < size → test y ≡ false) → none ≡ first test 0 size
+pub first-not : (test : ℕ → Bool) (size : ℕ) → ((y : ℕ) → y < size → test y ≡ false) → none ≡ first test 0 size
 first-not test size h = sym (none-first test 0 size (λ x a b. so-not (h x (omega (arith, b)))))
 
 module _ {words : List ℕ} {c : Cube} {w r : ℕ} (s : Looked words c w) (k : Common words c w r) where

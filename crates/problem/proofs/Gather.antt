@@ -190,11 +190,7 @@ module _ {A : Type 0} {n : ℕ} {read entry : ℕ → A} {before after : List �
   pub walked-end : 2 ^ n ≤ x → Stored n read before after from k whole
   walked-end h = filling-end (s .filling) (ap (map entry) (those-done n c test x h))
 
--- A test counts for at most one.
-pub one-few : (b : Bool) → cond b 1 0 ≤ 1
-one-few true = omega arith
-one-few false = omega arith
-
+-- A test adds at most one entry.
 pub entry-few : {A : Type 0} (b : Bool) (a : A) → length (cond b (a ∷ []) []) ≤ 1
 entry-few true a = omega arith
 entry-few false a = omega arith

@@ -1,7 +1,6 @@
 pub mod Answer
 pub mod Codes
 pub mod Label
-pub mod OffWord
 pub mod Ready
 pub mod Store
 pub mod Fault

@@ -3,7 +3,6 @@ pub mod check;
 pub mod further;
 pub mod kind;
 pub mod label;
-pub mod off_set;
 pub mod privileged;
 pub mod refusal;
 pub mod required;

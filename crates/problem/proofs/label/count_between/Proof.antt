@@ -6,7 +6,8 @@ use Rattle.hazard.specs.Search.{those}
 use Rattle.hazard.specs.Sets.{last}
 use Rattle.cube.specs.Mask.{cubeOf, Clean}
 use Rattle.problem.specs.Label.{isLabel}
-use Rattle.problem.proofs.Gather.{Tally, tally-start, tally-more, tally-end, those-few, one-few}
+use Rattle.problem.proofs.Gather.{Tally, tally-start, tally-more, tally-end, those-few}
+use Rattle.points.proofs.PlaneWord.{one-few}
 use borrow.Author.Needs.{needs}
 use Rattle.problem.proofs.label.count_between.Statement.{statement}
 use Rattle.problem.proofs.label.count_between.Tie as tie

@@ -1,0 +1,2 @@
+pub mod PlaneWord
+pub mod FurtherWord

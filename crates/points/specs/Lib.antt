@@ -1,0 +1,3 @@
+pub mod PointWord
+pub mod Plane
+pub mod Further
