@@ -1,2 +1,5 @@
 pub mod PlaneWord
 pub mod FurtherWord
+pub mod TurnWord
+pub mod Walk
+pub mod Agree

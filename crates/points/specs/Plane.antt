@@ -21,3 +21,9 @@ planeWord f v x (suc m) = planeWord f v (suc x) m * 2 + cond (eqb (value f x) v)
 pub record Plane (f : List ℕ) (v : ℕ) (words : List ℕ) : Type 0 where
   pub long : length words ≡ 16
   pub is : (x : ℕ) → inSet words x ≡ valued f v x
+
+-- The three planes of a table.
+pub record Planes (f zeros ones twos : List ℕ) : Type 0 where
+  pub zeros· : Plane f 0 zeros
+  pub ones· : Plane f 1 ones
+  pub twos· : Plane f 2 twos

@@ -3,3 +3,4 @@ pub mod Word
 pub mod Gather
 pub mod Checks
 pub mod Parts
+pub mod Faults

@@ -8,6 +8,7 @@ ghost use lib.ListN.{length};
 ghost use Rattle.hazard.specs.Search.{firstOf};
 ghost use Rattle.hazard.specs.Transition.{count};
 ghost use Rattle.hazard.specs.Refusal.{refusal, inputsCheck, lengthCheck, bytesCheck, listCheck, endsCheck, manyCheck, inputChecks};
+ghost use Rattle.points.specs.Plane.{Planes};
 ghost use Rattle.problem.specs.Answer.{checkedOf, senseChecks, transitionChecks};
 ghost use Rattle.problem.specs.Fault.{pointsCheck};
 ghost use Rattle.problem.specs.Ready.{Ready};
@@ -18,6 +19,7 @@ use crate::scan::Found;
 use crate::scan::fault_at;
 use crate::transition::end_of;
 use crate::transition::start_of;
+use points::plane::plane_into;
 
 // A refusal as what a check says.
 fn refused(number: u16, transition: u16, point: u16) -> Checked
@@ -112,8 +114,17 @@ fn check_ends(n: usize, transitions: &[u16]) -> Checked
 }
 
 // 6: a don't care in some [A,B]; or 7: the rule of the kind is broken. The first such transition, the lowest point.
-fn check_points(number: u16, n: usize, table: &[u8], transitions: &[u16]) -> Checked
+fn check_points(
+    number: u16,
+    n: usize,
+    table: &[u8],
+    transitions: &[u16],
+    zeros: &[u64],
+    ones: &[u64],
+    twos: &[u64],
+) -> Checked
     requires { ⌜ Ready n (now table) (now transitions) ⌝ }
+    requires { ⌜ Planes (now table) (now zeros) (now ones) (now twos) ⌝ }
     ensures { λ r. ⌜ checkedOf r ≡ pointsCheck number n (now (table .entry)) (now (transitions .entry)) ⌝ }
 {
     let count = transitions.len() / 2;
@@ -121,7 +132,7 @@ fn check_points(number: u16, n: usize, table: &[u8], transitions: &[u16]) -> Che
     while t < count {
         let a = start_of(transitions, t);
         let b = end_of(transitions, t);
-        if let Found::At(x) = fault_at(number, n, table, a, b) {
+        if let Found::At(x) = fault_at(number, n, table, zeros, ones, twos, a, b) {
             return refused(number, t as u16, x);
         }
         t += 1;
@@ -140,18 +151,56 @@ fn check_many(n: usize, table: &[u8], transitions: &[u16]) -> Checked
     Checked::Accepted
 }
 
+// Checks 6 to 8, by the planes of the table.
+fn check_planes(
+    n: usize,
+    table: &[u8],
+    transitions: &[u16],
+    zeros: &[u64],
+    ones: &[u64],
+    twos: &[u64],
+) -> Checked
+    requires { ⌜ Ready n (now table) (now transitions) ⌝ }
+    requires { ⌜ Planes (now table) (now zeros) (now ones) (now twos) ⌝ }
+    ensures { λ r. ⌜ checkedOf r ≡ firstOf (senseChecks n (now (table .entry)) (now (transitions .entry))) ⌝ }
+{
+    if let Checked::Refused(r) = check_points(6, n, table, transitions, zeros, ones, twos) {
+        return Checked::Refused(r);
+    }
+    if let Checked::Refused(r) = check_points(7, n, table, transitions, zeros, ones, twos) {
+        return Checked::Refused(r);
+    }
+    check_many(n, table, transitions)
+}
+
+// The same, the planes made in the lent room.
+fn check_with(
+    n: usize,
+    table: &[u8],
+    transitions: &[u16],
+    zeros: &mut [u64],
+    ones: &mut [u64],
+    twos: &mut [u64],
+) -> Checked
+    requires { ⌜ Ready n (now table) (now transitions) ⌝ }
+    requires { ⌜ (length (now zeros) ≡ 16) × (length (now ones) ≡ 16) × (length (now twos) ≡ 16) ⌝ }
+    ensures { λ r. ⌜ checkedOf r ≡ firstOf (senseChecks n (now (table .entry)) (now (transitions .entry))) ⌝ }
+{
+    plane_into(table, 0, zeros);
+    plane_into(table, 1, ones);
+    plane_into(table, 2, twos);
+    check_planes(n, table, transitions, zeros, ones, twos)
+}
+
 // Checks 6 to 8: what needs a table and transitions between its points.
 fn check_sense(n: usize, table: &[u8], transitions: &[u16]) -> Checked
     requires { ⌜ Ready n (now table) (now transitions) ⌝ }
     ensures { λ r. ⌜ checkedOf r ≡ firstOf (senseChecks n (now (table .entry)) (now (transitions .entry))) ⌝ }
 {
-    if let Checked::Refused(r) = check_points(6, n, table, transitions) {
-        return Checked::Refused(r);
-    }
-    if let Checked::Refused(r) = check_points(7, n, table, transitions) {
-        return Checked::Refused(r);
-    }
-    check_many(n, table, transitions)
+    let mut zeros = [0u64; 16];
+    let mut ones = [0u64; 16];
+    let mut twos = [0u64; 16];
+    check_with(n, table, transitions, &mut zeros, &mut ones, &mut twos)
 }
 
 // Checks 4 to 8: what needs a table of 2^n points.

@@ -1,8 +1,8 @@
 use mathlib.Core.Path.{_∙_, fun-ext}
 use native.Mathlib.Nat.{le-trans}
-use lib.Pow.{pow-mono}
 use borrow.Author.Needs.{needs}
 use Rattle.cube.proofs.Word.{taken-clean}
+use Rattle.problem.proofs.Checks.{ready-few}
 use Rattle.points.proofs.PlaneWord.{plane-off}
 use Rattle.problem.proofs.sets.sets_into.Statement.{statement}
 use Rattle.problem.proofs.sets.sets_into.Tie as tie
@@ -10,7 +10,7 @@ use Rattle.problem.proofs.sets.sets_into.Tie as tie
 plane-into-requires : tie.Need-plane-into-requires
 plane-into-requires c κs =
     let s = c .before .before .before .before .before .before in
-    (rw (s .pre .0 .whole) (pow-mono (s .pre .0 .small)), s .pre .1 .0)
+    (ready-few (s .pre .0), s .pre .1 .0)
 
 privileged-into-requires : tie.Need-privileged-into-requires
 privileged-into-requires c κs = search needs
