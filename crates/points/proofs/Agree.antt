@@ -23,7 +23,7 @@ use Rattle.points.specs.Turn.{turns, lasts, inCube}
 use Rattle.points.proofs.PlaneWord.{valued-in, valued-out}
 use Rattle.points.proofs.Walk.{Agrees}
 
-true-false : _≡_ {A = Bool} true false → ⊥
+pub true-false : _≡_ {A = Bool} true false → ⊥
 true-false e = let z : _≡_ {A = ℕ} 0 1 = cc in absurd (omega arith)
 
 -- Tests that agree find the same.

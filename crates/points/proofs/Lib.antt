@@ -3,3 +3,4 @@ pub mod FurtherWord
 pub mod TurnWord
 pub mod Walk
 pub mod Agree
+pub mod Members

@@ -8,13 +8,13 @@ ghost use lib.ListN.{length};
 ghost use Rattle.hazard.specs.Search.{firstOf};
 ghost use Rattle.hazard.specs.Transition.{count};
 ghost use Rattle.hazard.specs.Refusal.{refusal, inputsCheck, lengthCheck, bytesCheck, listCheck, endsCheck, manyCheck, inputChecks};
-ghost use Rattle.points.specs.Plane.{Planes};
+ghost use Rattle.points.specs.Plane.{Plane, Planes};
 ghost use Rattle.problem.specs.Answer.{checkedOf, senseChecks, transitionChecks};
 ghost use Rattle.problem.specs.Fault.{pointsCheck};
 ghost use Rattle.problem.specs.Ready.{Ready};
 use crate::refusal::Checked;
 use crate::refusal::refuse;
-use crate::required::count_required;
+use crate::required::count_by;
 use crate::scan::Found;
 use crate::scan::fault_at;
 use crate::transition::end_of;
@@ -141,11 +141,12 @@ fn check_points(
 }
 
 // 8: more than 2,048 required cubes.
-fn check_many(n: usize, table: &[u8], transitions: &[u16]) -> Checked
+fn check_many(n: usize, table: &[u8], transitions: &[u16], ones: &[u64]) -> Checked
     requires { ⌜ Ready n (now table) (now transitions) ⌝ }
+    requires { ⌜ Plane (now table) 1 (now ones) ⌝ }
     ensures { λ r. ⌜ checkedOf r ≡ manyCheck n (now (table .entry)) (now (transitions .entry)) ⌝ }
 {
-    if 2048 < count_required(n, table, transitions) {
+    if 2048 < count_by(n, table, transitions, ones) {
         return refused(8, 0, 0);
     }
     Checked::Accepted
@@ -170,26 +171,7 @@ fn check_planes(
     if let Checked::Refused(r) = check_points(7, n, table, transitions, zeros, ones, twos) {
         return Checked::Refused(r);
     }
-    check_many(n, table, transitions)
-}
-
-// The same, the planes made in the lent room.
-fn check_with(
-    n: usize,
-    table: &[u8],
-    transitions: &[u16],
-    zeros: &mut [u64],
-    ones: &mut [u64],
-    twos: &mut [u64],
-) -> Checked
-    requires { ⌜ Ready n (now table) (now transitions) ⌝ }
-    requires { ⌜ (length (now zeros) ≡ 16) × (length (now ones) ≡ 16) × (length (now twos) ≡ 16) ⌝ }
-    ensures { λ r. ⌜ checkedOf r ≡ firstOf (senseChecks n (now (table .entry)) (now (transitions .entry))) ⌝ }
-{
-    plane_into(table, 0, zeros);
-    plane_into(table, 1, ones);
-    plane_into(table, 2, twos);
-    check_planes(n, table, transitions, zeros, ones, twos)
+    check_many(n, table, transitions, ones)
 }
 
 // Checks 6 to 8: what needs a table and transitions between its points.
@@ -200,7 +182,10 @@ fn check_sense(n: usize, table: &[u8], transitions: &[u16]) -> Checked
     let mut zeros = [0u64; 16];
     let mut ones = [0u64; 16];
     let mut twos = [0u64; 16];
-    check_with(n, table, transitions, &mut zeros, &mut ones, &mut twos)
+    plane_into(table, 0, &mut zeros);
+    plane_into(table, 1, &mut ones);
+    plane_into(table, 2, &mut twos);
+    check_planes(n, table, transitions, &zeros, &ones, &twos)
 }
 
 // Checks 4 to 8: what needs a table of 2^n points.

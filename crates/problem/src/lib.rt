@@ -1,6 +1,5 @@
 // The problem: a table and transitions, checked, and the sets made from them.
 pub mod check;
-pub mod further;
 pub mod kind;
 pub mod label;
 pub mod privileged;
