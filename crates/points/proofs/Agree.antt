@@ -17,14 +17,11 @@ use Rattle.cube.specs.PointSet.{inSet}
 use Rattle.cube.specs.WordMask.{differs}
 use Rattle.cube.proofs.Masks.{has-masks}
 use Rattle.points.specs.PointWord.{PointsOf}
-use Rattle.points.specs.Plane.{valued, Plane}
+use Rattle.points.specs.Plane.{Plane}
 use Rattle.points.specs.Further.{movesInto, furtherIn}
 use Rattle.points.specs.Turn.{turns, lasts, inCube}
 use Rattle.points.proofs.PlaneWord.{valued-in, valued-out}
-use Rattle.points.proofs.Walk.{Agrees}
-
-pub true-false : _≡_ {A = Bool} true false → ⊥
-true-false e = let z : _≡_ {A = ℕ} 0 1 = cc in absurd (omega arith)
+use Rattle.points.proofs.Walk.{true-false, Agrees}
 
 -- Tests that agree find the same.
 pub first-same : (s t : ℕ → Bool) (from size : ℕ) → ((x : ℕ) → from ≤ x → x < from + size → s x ≡ t x) → first s from size ≡ first t from size
@@ -39,7 +36,7 @@ first-same s t from (suc size) h = go (s from) (t from) (h from (omega arith) (o
     go false false e ih = ih
 
 -- A point of the table is in the plane of its value.
-pub plane-in : {f : List ℕ} {v : ℕ} {words : List ℕ} → Plane f v words → (x : ℕ) → x < length f → inSet words x ≡ eqb (value f x) v
+plane-in : {f : List ℕ} {v : ℕ} {words : List ℕ} → Plane f v words → (x : ℕ) → x < length f → inSet words x ≡ eqb (value f x) v
 plane-in {f} {v} p x l = p .is x ∙ valued-in f v x l
 
 pub further-is : (n : ℕ) {f words : List ℕ} {v : ℕ} (a b : ℕ) → Plane f v words → length f ≡ 2 ^ n → (x : ℕ) → x < 2 ^ n → furtherIn n (inSet words) a b x ≡ further n f a b x v
@@ -49,7 +46,7 @@ further-is n {f} {words} {v} a b p e x l =
 
 -- The points of a set of n inputs, in the cube.
 module _ {n : ℕ} {c : masks.Cube} {ds : Cube} (s : Stands n c ds) where
-  pub in-cube : (x : ℕ) → eqb (differs c x) 0 ≡ has ds x
+  in-cube : (x : ℕ) → eqb (differs c x) 0 ≡ has ds x
   in-cube x = has-masks n (c .care) (c .value) x (s .fits .small) ∙ ap (λ (d : Cube). has d x) (s .is)
 
   pub agrees : {test like : ℕ → Bool} → Agrees test like (2 ^ n) → Agrees (inCube c test) (λ x. has ds x && like x) (2 ^ n)
@@ -66,7 +63,7 @@ plane-points {v = v} {f = f} p e = record { long = p .long; none = λ x l. p .is
 -- A plane, its points from which a move leads into another plane, and its points from which no move leads into it.
 module _ (n : ℕ) {f : List ℕ} (e : length f ≡ 2 ^ n) where
   pub plane-agrees : {v : ℕ} {words : List ℕ} → Plane f v words → Agrees (inSet words) (λ x. eqb (value f x) v) (2 ^ n)
-  plane-agrees {v} p = record { in· = λ x l. plane-in p x (omega (arith, e)); past = λ x l. p .is x ∙ valued-out f v x (omega (arith, e)) }
+  plane-agrees {v} p = record { in· = λ x l. plane-in p x (omega (arith, e)); past = plane-points p e .none }
 
   pub turns-agree : {v u : ℕ} {from to : List ℕ} (a b : ℕ) → Plane f v from → Plane f u to → Agrees (turns n (inSet from) (inSet to) a b) (λ x. eqb (value f x) v && further n f a b x u) (2 ^ n)
   turns-agree {to = to} a b p q =

@@ -4,21 +4,20 @@ use mathlib.Core.Logic.{_≢_}
 use mathlib.Core.Bool.{Bool, true, false, not, cond, _&&_, _||_}
 use mathlib.Core.List.{List}
 use mathlib.Core.Option.{none, some}
-use Prim.Native.Nat.{ℕ, zero, suc, _+_, _-_, _*_, _/_, _%_, _^_, _≤_, _<_}
-use native.Mathlib.Nat.{mod-lt, mod-eq-of-lt, one-mul, add-zero, zero-add, zero-div, add-comm, lt-of-lt-of-le, lt-of-le-of-lt}
+use Prim.Native.Nat.{ℕ, zero, suc, _+_, _-_, _*_, _/_, _%_, _^_, _<_}
+use native.Mathlib.Nat.{mod-lt, mod-eq-of-lt, one-mul, add-zero, zero-add, add-comm, lt-of-le-of-lt}
 use native.Mathlib.Numerals.{add-one}
 use native.Mathlib.Omega.{arith}
 use native.Mathlib.Decide.{ℕ-discrete}
 use lib.Dec.{T, eqb, ltb, eqb→eq, ltb→lt}
 use lib.Bits.{bitAnd, bitOr, and-le-r, or-shr, or-lt}
-use lib.ListN.{length, getD}
-use lib.Pow.{pow-pos, pow-add, pow-mono, pow-lt, shr-shr}
+use lib.ListN.{getD}
+use lib.Pow.{pow-pos, pow-add, pow-lt, shr-shr}
 use borrow.Author.Tests.{eq-eqb, ne-eqb, eqb-true}
 use Rattle.hazard.specs.Search.{found, first}
 use Rattle.hazard.specs.Cube.{bit, flip}
-use Rattle.hazard.specs.Transition.{movable}
 use Rattle.hazard.proofs.Test.{T-and}
-use Rattle.hazard.proofs.Point.{bit-lt, flip-up, flip-down, flip-lt}
+use Rattle.hazard.proofs.Point.{flip-up, flip-down, flip-lt}
 use Rattle.cube.specs.PointSet.{inSet}
 use Rattle.cube.proofs.Bits.{bit-case2, or-last}
 use Rattle.cube.proofs.WordMask.{high-bit, low-bit, mod-bit, no-bit, and-bits, both-bits}

@@ -1,14 +1,13 @@
 -- The points that pass a test, word by word.
-use mathlib.Core.Path.{_≡_, refl, sym, ap, ap₂, _∙_, subst}
+use mathlib.Core.Path.{_≡_, refl, sym, ap, ap₂, _∙_}
 use mathlib.Core.Logic.{_≢_}
 use mathlib.Core.Bool.{Bool, true, false}
 use mathlib.Core.List.{List, [], _∷_, _++_, append-nil}
 use Prim.Native.Nat.{ℕ, zero, suc, _+_, _-_, _*_, _/_, _%_, _^_, _≤_, _<_}
-use native.Mathlib.Nat.{add-zero, zero-add, sub-zero, mod-lt}
+use native.Mathlib.Nat.{add-zero, zero-add}
 use native.Mathlib.Numerals.{add-one}
 use native.Mathlib.Decide.{ℕ-discrete, decLt}
 use native.Mathlib.Omega.{arith}
-use lib.Arith.{lt-one}
 use lib.Dec.{eqb}
 use lib.Count.{trailingZeros, ones, ones-step, ones-le}
 use lib.ListN.{length}
@@ -22,11 +21,10 @@ use Rattle.cube.proofs.Bits.{half-lt}
 use Rattle.cube.proofs.Scan.{left, those-skip}
 use Rattle.cube.proofs.WordMask.{Lowest, lowest-bit, no-bit}
 use Rattle.points.specs.PointWord.{WordOf, pointsIn, Below}
-use Rattle.points.proofs.Walk.{Agrees}
-use Rattle.points.proofs.Agree.{true-false}
+use Rattle.points.proofs.Walk.{true-false, Agrees}
 
 -- Tests that agree give the same list, ranges one after the other give lists one after the other, and where none passes there is none.
-pub those-same : (s t : ℕ → Bool) (from size : ℕ) → ((x : ℕ) → from ≤ x → x < from + size → s x ≡ t x) → those s from size ≡ those t from size
+those-same : (s t : ℕ → Bool) (from size : ℕ) → ((x : ℕ) → from ≤ x → x < from + size → s x ≡ t x) → those s from size ≡ those t from size
 those-same s t from zero h = refl
 those-same s t from (suc size) h = go (s from) (t from) (h from (omega arith) (omega arith)) (those-same s t (suc from) size (λ x a b. h x (omega arith) (omega arith)))
   where

@@ -1,9 +1,9 @@
 -- A loop over the words for the lowest point that passes a test.
-use mathlib.Core.Path.{_≡_, refl, sym, ap, _∙_}
+use mathlib.Core.Path.{_≡_, sym, ap, _∙_}
 use mathlib.Core.Logic.{_≢_}
 use mathlib.Core.Bool.{Bool, true, false}
-use mathlib.Core.Option.{Option, none, some}
-use Prim.Native.Nat.{ℕ, zero, suc, _+_, _-_, _*_, _/_, _%_, _^_, _≤_, _<_}
+use mathlib.Core.Option.{none, some}
+use Prim.Native.Nat.{ℕ, _+_, _*_, _/_, _%_, _≤_, _<_}
 use native.Mathlib.Decide.{ℕ-discrete, decLt}
 use native.Mathlib.Omega.{arith}
 use lib.Dec.{eqb}
@@ -13,6 +13,10 @@ use Rattle.hazard.specs.Cube.{bit}
 use Rattle.cube.proofs.WordMask.{Lowest, lowest-bit, first-at, first-not}
 use Rattle.points.specs.PointWord.{WordOf}
 use Rattle.points.proofs.TurnWord.{none-passes}
+
+-- A test that holds does not fail.
+pub true-false : _≡_ {A = Bool} true false → ⊥
+true-false e = let z : _≡_ {A = ℕ} 0 1 = cc in absurd (omega arith)
 
 -- Two tests agree on the numbers below size, and no other number passes the first.
 pub record Agrees (test like : ℕ → Bool) (size : ℕ) : Type 0 where
@@ -51,9 +55,6 @@ module _ {test : ℕ → Bool} {w r : ℕ} (s : Looked test w) (k : WordOf test 
     -- A point that passes is below the size.
     within : {like : ℕ → Bool} {size : ℕ} → Agrees test like size → 64 * w + trailingZeros 64 r < size
     within {size = size} a = elim (decLt (64 * w + trailingZeros 64 r) size) [ yes l ↦ l | no l ↦ absurd (true-false (sym here ∙ a .past (64 * w + trailingZeros 64 r) (omega (arith, l)))) ]
-      where
-        true-false : _≡_ {A = Bool} true false → ⊥
-        true-false e = let z : _≡_ {A = ℕ} 0 1 = cc in absurd (omega arith)
 
     pub looked-hit : {like : ℕ → Bool} {size : ℕ} → Agrees test like size → some (64 * w + trailingZeros 64 r) ≡ first like 0 size
     looked-hit {like} {size} a =

@@ -1,8 +1,8 @@
 -- Faults by words, and the definitions' faults.
-use mathlib.Core.Path.{_≡_, refl, sym, ap, _∙_}
+use mathlib.Core.Path.{_≡_, refl, ap, _∙_}
 use mathlib.Core.Bool.{Bool, false, _&&_}
 use mathlib.Core.List.{List}
-use Prim.Native.Nat.{ℕ, _+_, _^_, _≤_, _<_}
+use Prim.Native.Nat.{ℕ, _^_, _≤_}
 use native.Mathlib.Omega.{arith}
 use lib.Dec.{eqb}
 use lib.ListN.{length}
@@ -13,7 +13,7 @@ use Rattle.cube.specs.declared.mask.Cube.{Cube}
 use Rattle.cube.specs.Mask.{Stands}
 use Rattle.cube.specs.PointSet.{inSet}
 use Rattle.points.specs.PointWord.{PointsOf}
-use Rattle.points.specs.Plane.{Plane, Planes}
+use Rattle.points.specs.Plane.{Plane}
 use Rattle.points.specs.Further.{furtherIn}
 use Rattle.points.specs.Turn.{inCube}
 use Rattle.points.proofs.Walk.{Agrees}

@@ -1,11 +1,9 @@
-use mathlib.Core.Path.{_≡_, sym, ap, _∙_, subst}
+use mathlib.Core.Path.{_≡_, sym, _∙_}
 use mathlib.Core.Logic.{_≢_}
-use Prim.Native.Nat.{ℕ, _+_, _-_}
+use Prim.Native.Nat.{_+_, _-_}
 use native.Mathlib.Omega.{arith}
 use Rattle.hazard.specs.Cube.{bit}
 use Rattle.cube.specs.PointSet.{inSet}
-use Rattle.points.specs.PointWord.{WordOf}
-use Rattle.points.specs.Further.{movesFrom}
 use Rattle.points.proofs.FurtherWord.{within-word, moving-none, moving-here}
 use borrow.Author.Needs.{needs}
 use Rattle.points.proofs.further.moving.Statement.{statement}

@@ -1,8 +1,6 @@
-use mathlib.Core.Path.{_≡_, subst⁻¹}
-use Prim.Native.Nat.{ℕ, _*_, _/_, _%_, _^_}
+use mathlib.Core.Path.{_≡_}
 use native.Mathlib.Omega.{arith}
-use lib.Bits.{bitAnd}
-use Rattle.points.specs.Further.{Side, Within}
+use Rattle.points.specs.Further.{Side}
 use Rattle.points.proofs.FurtherWord.{by-is, by-few, within-zero, within-one}
 use borrow.Author.Needs.{needs}
 use Rattle.points.proofs.further.within.Statement.{statement}

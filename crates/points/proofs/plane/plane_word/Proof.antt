@@ -1,4 +1,4 @@
-use mathlib.Core.Path.{sym, subst⁻¹}
+use mathlib.Core.Path.{subst⁻¹}
 use native.Mathlib.Omega.{arith}
 use Rattle.points.specs.PointWord.{WordOf}
 use Rattle.points.specs.Plane.{valued}

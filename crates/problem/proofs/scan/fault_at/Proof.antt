@@ -1,4 +1,4 @@
-use mathlib.Core.Path.{_≡_, _∙_}
+use mathlib.Core.Path.{_∙_}
 use Rattle.points.proofs.Agree.{plane-points}
 use Rattle.problem.specs.Codes.{kindIs}
 use Rattle.problem.proofs.Faults.{broken-is, undefined-is}
