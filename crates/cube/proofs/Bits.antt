@@ -1,9 +1,11 @@
 -- The bit operations, bit by bit.
 use mathlib.Core.Path.{_≡_, refl, sym, ap, ap₂, _∙_, subst}
+use mathlib.Core.Logic.{_≢_}
 use mathlib.Core.Bool.{Bool, true, false, _&&_}
 use mathlib.Core.List.{List, [], _∷_}
 use Prim.Native.Nat.{ℕ, zero, suc, _+_, _-_, _*_, _/_, _%_, _^_, _≤_, _<_, min, max}
 use native.Mathlib.Nat.{mod-lt, mod-eq-of-lt, one-mul, pow-suc, lt-of-le-of-lt}
+use native.Mathlib.Decide.{ℕ-discrete}
 use native.Mathlib.Omega.{arith}
 use lib.Dec.{T, eqb}
 use lib.Arith.{lt-one, bin-ind}
@@ -65,14 +67,21 @@ half-lt a n h = omega (arith, pow-suc 2 n)
 pub by-digits : {a b : ℕ} → a / 2 ≡ b / 2 → a % 2 ≡ b % 2 → a ≡ b
 by-digits {a} {b} p q = omega arith
 
+-- A number is 0 where two others are.
+pub zero-both : (d a b : ℕ) → (d ≡ 0 → a + b ≡ 0) → (a + b ≡ 0 → d ≡ 0) → eqb d 0 ≡ (eqb a 0 && eqb b 0)
+zero-both d a b f g =
+    elim (ℕ-discrete d 0) [
+      | yes e ↦ let p : a ≡ 0 = omega (arith, f e) in let q : b ≡ 0 = omega (arith, f e) in rw (e, p, q)
+      | no n ↦ ne-eqb d 0 n ∙ sym (go a b (λ e. n (g e)))
+    ]
+  where
+    go : (a b : ℕ) → a + b ≢ 0 → (eqb a 0 && eqb b 0) ≡ false
+    go zero b h = ne-eqb b 0 (λ e. h (omega arith))
+    go (suc a) b h = ap (λ (t : Bool). t && eqb b 0) (ne-eqb (suc a) 0 (λ e. omega arith))
+
 -- A number is 0 where its last digit is and the rest is.
 pub zero-split : (n : ℕ) → eqb n 0 ≡ (eqb (n % 2) 0 && eqb (n / 2) 0)
-zero-split zero = refl
-zero-split (suc n) = ne-eqb (suc n) 0 (λ e. omega arith) ∙ sym (go (suc n % 2) (suc n / 2) (omega arith))
-  where
-    go : (a b : ℕ) → 0 < a + b → (eqb a 0 && eqb b 0) ≡ false
-    go zero b h = ne-eqb b 0 (λ e. omega arith)
-    go (suc a) b h = ap (λ (t : Bool). t && eqb b 0) (ne-eqb (suc a) 0 (λ e. omega arith))
+zero-split n = zero-both n (n % 2) (n / 2) (λ e. omega arith) (λ e. omega arith)
 
 -- The code's 1 << i.
 pub one-shl : (i : ℕ) → i < 16 → (1 * 2 ^ i) % 2 ^ 16 ≡ 2 ^ i

@@ -7,3 +7,4 @@ pub mod Scan
 pub mod Word
 pub mod Left
 pub mod WordMask
+pub mod ByWords

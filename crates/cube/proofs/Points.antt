@@ -10,7 +10,7 @@ use lib.Pow.{pow-pos, pow-add}
 use borrow.Author.Tests.{eqb-true, eqb-false}
 use Rattle.hazard.specs.Cube.{bit, flip}
 
-and-bit : (x i : ℕ) → bitAnd x (2 ^ i) ≡ bit x i * 2 ^ i
+pub and-bit : (x i : ℕ) → bitAnd x (2 ^ i) ≡ bit x i * 2 ^ i
 and-bit x i = ap (bitAnd x) (sym (omega (arith, pow-add 2 1 i))) ∙ and-high x 1 i
 
 pub flip-xor : (x i : ℕ) → bitXor x (2 ^ i) ≡ flip x i

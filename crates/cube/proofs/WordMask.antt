@@ -1,32 +1,22 @@
 -- The bits of a cube's mask, and the words that the cube has points in.
-use mathlib.Core.Path.{_≡_, refl, sym, ap, ap₂, _∙_, subst}
-use mathlib.Core.Logic.{_≢_}
-use mathlib.Core.Bool.{Bool, true, false, _&&_}
-use mathlib.Core.Option.{Option, none, some}
-use mathlib.Core.List.{List}
-use Prim.Native.Nat.{ℕ, zero, suc, _+_, _-_, _*_, _/_, _%_, _^_, _≤_, _<_}
-use native.Mathlib.Nat.{mod-lt, mod-eq-of-lt, zero-div, div-one, zero-add, add-zero, mod-one, one-mul, zero-mul, add-comm, pow-suc, lt-of-lt-of-le, lt-of-le-of-lt}
-use native.Mathlib.Decide.{ℕ-discrete, decLt}
+use mathlib.Core.Path.{_≡_, refl, sym, ap, _∙_, subst}
+use mathlib.Core.Bool.{_&&_}
+use Prim.Native.Nat.{ℕ, suc, _+_, _-_, _*_, _/_, _%_, _^_, _≤_, _<_}
+use native.Mathlib.Nat.{mod-lt, mod-eq-of-lt, zero-div, zero-add, add-zero, mod-one, one-mul, mul-one, zero-mul, add-comm, add-mul, mul-assoc, mul-comm, mul-le-mul-left, pow-suc, lt-of-lt-of-le, lt-of-le-of-lt}
+use native.Mathlib.Decide.{ℕ-discrete}
 use native.Mathlib.Numerals.{add-one}
 use native.Mathlib.Omega.{arith}
 use lib.Dec.{eqb}
-use lib.Arith.{digits-lt, lt-one}
-use lib.Bits.{bitAnd, bitOr, bitXor, and-shr, xor-shr, or-shifted-r, and-zero-r, and-le-r}
-use lib.Count.{under, trailingZeros}
+use lib.Arith.{digits-lt}
+use lib.Bits.{bitAnd, bitOr, bitXor, and-shr, xor-shr, or-shifted-r, and-zero-r, and-le-r, or-self, xor-self, xor-zero-r, xor-lt}
 use lib.Pow.{pow-pos, pow-add, pow-mono, shl-exact, shr-shr, high, low, field, mod-mod-pow, mod-pow-add}
-use lib.ListN.{getD}
 use borrow.Author.Tests.{ne-eqb}
-use Rattle.hazard.specs.Cube.{bit, has}
-use Rattle.hazard.proofs.Test.{so, so-not}
-use Rattle.hazard.proofs.Search.{First, nowhere, lowest, first-is, none-first}
-use Rattle.hazard.specs.Search.{first}
-use Rattle.hazard.specs.Implicant.{lowestZero}
-use Rattle.cube.specs.Mask.{cubeOf, Clean}
-use Rattle.cube.specs.PointSet.{inSet}
-use Rattle.cube.specs.WordMask.{differs, Marks, inBoth, Common}
+use Rattle.hazard.specs.Cube.{bit}
+use Rattle.cube.specs.Mask.{Clean}
+use Rattle.cube.specs.WordMask.{differs, Marks, Words}
 use Rattle.cube.specs.declared.mask.Cube.{Cube}
-use Rattle.cube.proofs.Bits.{bit-case2, and-last, xor-last, half-lt}
-use Rattle.cube.proofs.Masks.{has-masks}
+use Rattle.cube.proofs.Bits.{bit-case2, and-last, xor-last}
+use Rattle.cube.proofs.Points.{and-bit}
 
 -- Bits of a number of two parts.
 pub high-bit : (a k r : ℕ) {b : ℕ} → b < 2 ^ k → bit (a * 2 ^ k + b) (k + r) ≡ bit a r
@@ -63,18 +53,6 @@ index-one x i e = next-index x i ∙ ap (λ (b : ℕ). b * 2 ^ i + x % 2 ^ i) e 
 
 twice : (i : ℕ) → 2 ^ (i + 1) ≡ 2 ^ i + 2 ^ i
 twice i = omega (arith, ap (λ (j : ℕ). 2 ^ j) (add-one i) ∙ pow-suc 2 i)
-
--- The code's m << 2^i.
-pub upper-is : (m i : ℕ) → i < 6 → m < 2 ^ (2 ^ i) → (m * 2 ^ ((1 * 2 ^ i) % 2 ^ 64)) % 2 ^ 64 ≡ m * 2 ^ (2 ^ i)
-upper-is m i l h =
-    let few : 2 ^ i + 2 ^ i ≤ 64 = omega (arith, twice i, pow-mono {i = i + 1} {j = 6} (omega arith)) in
-    let e : (1 * 2 ^ i) % 2 ^ 64 ≡ 2 ^ i = ap (λ (y : ℕ). y % 2 ^ 64) (one-mul (2 ^ i)) ∙ mod-eq-of-lt (omega (arith, few)) in
-    ap (λ (y : ℕ). (m * 2 ^ y) % 2 ^ 64) e ∙ shl-exact (2 ^ i) (2 ^ i) 64 h few
-
-pub upper-amount : (i : ℕ) → i < 6 → (1 * 2 ^ i) % 2 ^ 64 < 64
-upper-amount i l =
-    let few : 2 ^ i ≤ 32 = pow-mono {i = i} {j = 5} (omega arith) in
-    rw (one-mul (2 ^ i), mod-eq-of-lt {n = 2 ^ i} {m = 2 ^ 64} (omega (arith, few))) (omega (arith, few))
 
 -- The bit of a point in a mask of two halves, for the values 0 and 1 of the input.
 module _ (a b x i : ℕ) (h : b < 2 ^ (2 ^ i)) where
@@ -132,113 +110,103 @@ module _ {c : Cube} {i m : ℕ} (s : Marks c i m) where
 pub marks-start : (c : Cube) → Marks c 0 1
 marks-start c = record { small = omega arith; marks = λ x. rw (mod-one, mod-one) }
 
--- The differences of a point, by its word and by its bit.
-pub differs-word : (c : Cube) (x : ℕ) → differs c x / 64 ≡ bitAnd (bitXor (x / 64) (c .value / 64)) (c .care / 64)
-differs-word c x = and-shr (bitXor x (c .value)) (c .care) 6 ∙ ap (λ (y : ℕ). bitAnd y (c .care / 64)) (xor-shr x (c .value) 6)
+-- A loop over inputs 0 to 5: m, moved by the ones among the literals below i, is the mask of the inputs below i.
+abbrev ones : Cube → ℕ
+ones c = bitAnd (c .care) (c .value)
+
+pub record Widened (c : Cube) (i m : ℕ) : Type 0 where
+  pub few : i ≤ 6
+  pub moved : Marks c i (m * 2 ^ (ones c % 2 ^ i))
+
+pub widened-start : (c : Cube) → Widened c 0 1
+widened-start c = record { few = omega arith; moved = rw (mod-one (ones c)) (marks-start c) }
+
+-- The weight of input i, and 0 where it has a literal.
+abbrev weight : ℕ → ℕ
+weight i = (1 * 2 ^ i) % 2 ^ 64
+
+abbrev free : ℕ → ℕ → ℕ
+free care i = bitXor (weight i) (bitAnd care (weight i))
+
+module _ (i : ℕ) (l : i < 6) where
+  half : 2 ^ i + 2 ^ i ≤ 64
+  half = omega (arith, twice i, pow-mono {i = i + 1} {j = 6} (omega arith))
+
+  weight-is : weight i ≡ 2 ^ i
+  weight-is = ap (λ (y : ℕ). y % 2 ^ 64) (one-mul (2 ^ i)) ∙ mod-eq-of-lt (omega (arith, half))
+
+  module _ (care : ℕ) where
+    pub free-small : free care i < 64
+    free-small =
+        let h : weight i < 64 = omega (arith, weight-is, half, pow-pos i) in
+        xor-lt 6 (weight i) (bitAnd care (weight i)) h (lt-of-le-of-lt (and-le-r care (weight i)) h)
+
+    free-is : free care i ≡ bitXor (2 ^ i) (bit care i * 2 ^ i)
+    free-is = ap (λ (w : ℕ). bitXor w (bitAnd care w)) weight-is ∙ ap (bitXor (2 ^ i)) (and-bit care i)
+
+    free-one : bit care i ≡ 0 → free care i ≡ 2 ^ i
+    free-one e = free-is ∙ ap (λ (b : ℕ). bitXor (2 ^ i) (b * 2 ^ i)) e ∙ ap (bitXor (2 ^ i)) (zero-mul (2 ^ i)) ∙ xor-zero-r (2 ^ i)
+
+    free-zero : bit care i ≡ 1 → free care i ≡ 0
+    free-zero e = free-is ∙ ap (λ (b : ℕ). bitXor (2 ^ i) (b * 2 ^ i)) e ∙ ap (bitXor (2 ^ i)) (one-mul (2 ^ i)) ∙ xor-self (2 ^ i)
+
+ones-bit : (c : Cube) (i : ℕ) → bit (ones c) i ≡ bitAnd (bit (c .care) i) (bit (c .value) i)
+ones-bit c i = and-bits (c .care) (c .value) i
+
+-- Factors in another order.
+swap : (m x y : ℕ) → m * x * y ≡ m * y * x
+swap m x y = mul-assoc m x y ∙ ap (λ (z : ℕ). m * z) (mul-comm x y) ∙ sym (mul-assoc m y x)
+
+module _ {c : Cube} {i m : ℕ} (s : Widened c i m) (l : i < 6) where
+  abbrev below : ℕ
+  below = 2 ^ (ones c % 2 ^ i)
+
+  own : m < 2 ^ (2 ^ i)
+  own = lt-of-le-of-lt (rw mul-one at (mul-le-mul-left m (pow-pos (ones c % 2 ^ i)))) (s .moved .small)
+
+  -- With a literal the bits stay, without one they are there twice.
+  stays : bit (c .care) i ≡ 1 → bitOr m ((m * 2 ^ free (c .care) i) % 2 ^ 64) ≡ m
+  stays e =
+      let h : m < 2 ^ 64 = lt-of-lt-of-le own (pow-mono {j = 64} (omega (arith, half i l))) in
+      ap (λ (y : ℕ). bitOr m ((m * 2 ^ y) % 2 ^ 64)) (free-zero i l (c .care) e) ∙ ap (λ (y : ℕ). bitOr m (y % 2 ^ 64)) (mul-one m) ∙ ap (bitOr m) (mod-eq-of-lt h) ∙ or-self m
+
+  twofold : bit (c .care) i ≡ 0 → bitOr m ((m * 2 ^ free (c .care) i) % 2 ^ 64) * below ≡ bitOr (m * below) (m * below * 2 ^ (2 ^ i))
+  twofold e =
+      ap (λ (y : ℕ). bitOr m ((m * 2 ^ y) % 2 ^ 64) * below) (free-one i l (c .care) e)
+      ∙ ap (λ (y : ℕ). bitOr m y * below) (shl-exact (2 ^ i) (2 ^ i) 64 own (half i l))
+      ∙ ap (λ (y : ℕ). y * below) (or-shifted-r m (2 ^ i) m own)
+      ∙ add-mul (m * 2 ^ (2 ^ i)) m below
+      ∙ ap (λ (y : ℕ). y + m * below) (swap m (2 ^ (2 ^ i)) below)
+      ∙ sym (or-shifted-r (m * below) (2 ^ i) (m * below) (s .moved .small))
+
+  higher : m * 2 ^ (2 ^ i + ones c % 2 ^ i) ≡ m * below * 2 ^ (2 ^ i)
+  higher = ap (λ (y : ℕ). m * y) (pow-add 2 (2 ^ i) (ones c % 2 ^ i)) ∙ sym (mul-assoc m (2 ^ (2 ^ i)) below) ∙ swap m (2 ^ (2 ^ i)) below
+
+  pub widened-more : Widened c (i + 1) (bitOr m ((m * 2 ^ free (c .care) i) % 2 ^ 64))
+  widened-more = record { few = omega arith; moved = go (ℕ-discrete (bit (c .care) i) 1) (ℕ-discrete (bit (c .value) i) 1) }
+    where
+      go : Dec (bit (c .care) i ≡ 1) → Dec (bit (c .value) i ≡ 1) → Marks c (i + 1) (bitOr m ((m * 2 ^ free (c .care) i) % 2 ^ 64) * 2 ^ (ones c % 2 ^ (i + 1)))
+      go (yes e) (yes v) = rw (stays e, index-one (ones c) i (ones-bit c i ∙ rw (e, v)), higher) (marks-one (s .moved) e v)
+      go (yes e) (no v) = let z : bit (c .value) i ≡ 0 = omega arith in rw (stays e, index-zero (ones c) i (ones-bit c i ∙ rw (e, z))) (marks-zero (s .moved) e z)
+      go (no e) v = let z : bit (c .care) i ≡ 0 = omega arith in rw (index-zero (ones c) i (ones-bit c i ∙ rw z), twofold z) (marks-free (s .moved) z)
+
+pub widened-end : {c : Cube} {i m : ℕ} → Widened c i m → 6 ≤ i → Marks c 6 ((m * 2 ^ (ones c % 64)) % 2 ^ 64)
+widened-end {c} {i} {m} s l =
+    let e : i ≡ 6 = omega (arith, s .few) in
+    let t : Marks c 6 (m * 2 ^ (ones c % 64)) = rw e at (s .moved) in
+    rw (mod-eq-of-lt (t .small)) t
+
+-- The cube of the words.
+pub words-are : (c h : Cube) → Clean 10 c → h .care ≡ c .care / 64 → h .value ≡ c .value / 64 → Words c h
+words-are c h f p q =
+    record {
+      fits = record { small = omega (arith, f .small); clean = rw (p, q) (sym (and-shr (c .value) (c .care) 6) ∙ ap (λ (y : ℕ). y / 64) (f .clean)) };
+      word = λ x. rw (p, q) (sym (and-shr (bitXor x (c .value)) (c .care) 6 ∙ ap (λ (y : ℕ). bitAnd y (c .care / 64)) (xor-shr x (c .value) 6)));
+    }
 
 -- A bit of an `and`, as a test.
-pub both-bits : (a b : ℕ) → eqb (bitAnd (a % 2) (b % 2)) 1 ≡ (eqb (b % 2) 1 && eqb (a % 2) 1)
+both-bits : (a b : ℕ) → eqb (bitAnd (a % 2) (b % 2)) 1 ≡ (eqb (b % 2) 1 && eqb (a % 2) 1)
 both-bits = bit-case2 (λ a b. eqb (bitAnd a b) 1 ≡ (eqb b 1 && eqb a 1)) refl refl refl refl
 
-module _ (words : List ℕ) (c : Cube) (w : ℕ) where
-  -- A word that the cube has no point in.
-  pub common-none : bitAnd (bitXor w (c .value / 64)) (c .care / 64) ≢ 0 → Common words c w 0
-  common-none d = record { small = omega arith; common = λ x q. go x q }
-    where
-      go : (x : ℕ) → x / 64 ≡ w → eqb (bit 0 (x % 64)) 1 ≡ inBoth words c x
-      go x q =
-          let n : eqb (differs c x) 0 ≡ false = ne-eqb (differs c x) 0 (λ e. d (ap (λ (y : ℕ). bitAnd (bitXor y (c .value / 64)) (c .care / 64)) (sym q) ∙ sym (differs-word c x) ∙ ap (λ (y : ℕ). y / 64) e)) in
-          ap (λ (y : ℕ). eqb y 1) (no-bit 0 (x % 64) refl) ∙ sym (ap (λ (b : Bool). b && inSet words x) n)
-
-  pub common-here : {m : ℕ} → Marks c 6 m → bitAnd (bitXor w (c .value / 64)) (c .care / 64) ≡ 0 → Common words c w (bitAnd (getD words w 0) m)
-  common-here {m} s d = record { small = lt-of-le-of-lt (and-le-r (getD words w 0) m) (s .small); common = λ x q. go x q }
-    where
-      go : (x : ℕ) → x / 64 ≡ w → eqb (bit (bitAnd (getD words w 0) m) (x % 64)) 1 ≡ inBoth words c x
-      go x q =
-          let z : differs c x / 64 ≡ 0 = differs-word c x ∙ ap (λ (y : ℕ). bitAnd (bitXor y (c .value / 64)) (c .care / 64)) q ∙ d in
-          let n : differs c x % 64 ≡ differs c x = omega arith in
-          ap (λ (y : ℕ). eqb y 1) (and-bits (getD words w 0) m (x % 64))
-          ∙ both-bits (getD words w 0 / 2 ^ (x % 64)) (m / 2 ^ (x % 64))
-          ∙ ap₂ _&&_ (s .marks x ∙ ap (λ (y : ℕ). eqb y 0) n) (ap (λ (v : ℕ). eqb (bit (getD words v 0) (x % 64)) 1) (sym q))
-
--- The lowest bit of a number.
-bit-suc : (r t : ℕ) → bit r (suc t) ≡ bit (r / 2) t
-bit-suc r t = ap (λ (y : ℕ). y % 2) (ap (λ (j : ℕ). r / 2 ^ j) (sym (add-one t) ∙ add-comm t 1) ∙ sym (shr-shr r 1 t))
-
-pub record Lowest (k r t : ℕ) : Type 0 where
-  pub inside : t < k
-  pub set : bit r t ≡ 1
-  pub least : (b : ℕ) → b < t → bit r b ≡ 0
-
-pub lowest-bit : (k r : ℕ) → r < 2 ^ k → r ≢ 0 → Lowest k r (trailingZeros k r)
-unfolding trailingZeros
-lowest-bit zero r h n = absurd (n (lt-one h))
-lowest-bit (suc k) r h n = go (r % 2) refl (mod-lt r (omega arith)) (λ z. lowest-bit k (r / 2) (half-lt r k h) (λ e. n (omega arith)))
-  where
-    go : (d : ℕ) → r % 2 ≡ d → d < 2 → (r % 2 ≡ 0 → Lowest k (r / 2) (trailingZeros k (r / 2))) → Lowest (suc k) r (under d (trailingZeros k (r / 2)))
-    go zero e l ih = let v = ih e in record { inside = omega (arith, v .inside); set = bit-suc r _ ∙ v .set; least = λ b h. low b h }
-      where
-        low : (b : ℕ) → b < suc (trailingZeros k (r / 2)) → bit r b ≡ 0
-        low zero h = ap (λ (y : ℕ). y % 2) (div-one r) ∙ e
-        low (suc b) h = bit-suc r b ∙ ih e .least b (omega arith)
-    go (suc zero) e l ih = record { inside = omega arith; set = ap (λ (y : ℕ). y % 2) (div-one r) ∙ e; least = λ b h. absurd (omega arith) }
-    go (suc (suc d)) e l ih = absurd (omega arith)
-
--- A loop over the words, for the lowest point of the set in the cube: there is none in the words below w.
-pub record Looked (words : List ℕ) (c : Cube) (w : ℕ) : Type 0 where
-  pub none : (x : ℕ) → x / 64 < w → inBoth words c x ≡ false
-
-pub looked-start : (words : List ℕ) (c : Cube) → Looked words c 0
-looked-start words c = record { none = λ x l. absurd (omega arith) }
-
-pub first-at : (test : ℕ → Bool) (x size : ℕ) → test x ≡ true → x < size → ((y : ℕ) → y < x → test y ≡ false) → some x ≡ first test 0 size
-first-at test x size e l h = go (first test 0 size) (first-is test 0 size)
-  where
-    go : (o : Option ℕ) → First test 0 size o → some x ≡ o
-    go none (nowhere k) = absurd (k x (omega arith) (omega arith) (so e))
-    go (some y) (lowest t a b k) =
-        elim (decLt y x) [
-          | yes i ↦ absurd (so-not (h y i) t)
-          | no i ↦ elim (decLt x y) [ yes j ↦ absurd (k x (omega arith) j (so e)) | no j ↦ let q : x ≡ y = omega (arith, i, j) in ap some q ]
-        ]
-
-pub first-not : (test : ℕ → Bool) (size : ℕ) → ((y : ℕ) → y < size → test y ≡ false) → none ≡ first test 0 size
-first-not test size h = sym (none-first test 0 size (λ x a b. so-not (h x (omega (arith, b)))))
-
-module _ {words : List ℕ} {c : Cube} {w r : ℕ} (s : Looked words c w) (k : Common words c w r) where
-  pub looked-more : r ≡ 0 → Looked words c (w + 1)
-  looked-more e = record { none = λ x l. elim (ℕ-discrete (x / 64) w) [ yes q ↦ sym (k .common x q) ∙ ap (λ (y : ℕ). eqb y 1) (no-bit r (x % 64) e) | no q ↦ s .none x (omega arith) ] }
-
-  -- The lowest bit of the word is the lowest point of the set in the cube.
-  module _ (ne : r ≢ 0) where
-    least-bit : Lowest 64 r (trailingZeros 64 r)
-    least-bit = lowest-bit 64 r (k .small) ne
-
-    below : (y : ℕ) → y < 64 * w + trailingZeros 64 r → inBoth words c y ≡ false
-    below y l =
-        elim (decLt (y / 64) w) [
-          | yes i ↦ s .none y i
-          | no i ↦ let q : y / 64 ≡ w = omega (arith, i, least-bit .inside) in sym (k .common y q) ∙ ap (λ (b : ℕ). eqb b 1) (least-bit .least (y % 64) (omega arith))
-        ]
-
-    here : inBoth words c (64 * w + trailingZeros 64 r) ≡ true
-    here =
-        let q : (64 * w + trailingZeros 64 r) / 64 ≡ w = omega (arith, least-bit .inside) in
-        let p : (64 * w + trailingZeros 64 r) % 64 ≡ trailingZeros 64 r = omega (arith, least-bit .inside) in
-        sym (k .common (64 * w + trailingZeros 64 r) q) ∙ ap (λ (b : ℕ). eqb (bit r b) 1) p ∙ ap (λ (b : ℕ). eqb b 1) (least-bit .set)
-
-module _ {n : ℕ} {words : List ℕ} {c : Cube} {w : ℕ} (f : Clean n c) (s : Looked words c w) where
-  test-is : (x : ℕ) → (has (cubeOf n c) x && inSet words x) ≡ inBoth words c x
-  test-is x = ap (λ (b : Bool). b && inSet words x) (sym (has-masks n (c .care) (c .value) x (f .small)))
-
-  pub looked-end : 2 ^ n ≤ 64 * w → none ≡ lowestZero n (inSet words) (cubeOf n c)
-  looked-end l = first-not (λ x. has (cubeOf n c) x && inSet words x) (2 ^ n) (λ y b. test-is y ∙ s .none y (omega arith))
-
-  pub looked-hit : {r : ℕ} → Common words c w r → r ≢ 0 → 64 * w + trailingZeros 64 r < 2 ^ n → some (64 * w + trailingZeros 64 r) ≡ lowestZero n (inSet words) (cubeOf n c)
-  looked-hit {r} k ne l =
-      first-at (λ x. has (cubeOf n c) x && inSet words x) (64 * w + trailingZeros 64 r) (2 ^ n)
-      (test-is (64 * w + trailingZeros 64 r) ∙ here s k ne) l (λ y b. test-is y ∙ below s k ne y b)
-
-  -- With fewer than 6 inputs a word has bits that are no points.
-  pub looked-past : {r : ℕ} → Common words c w r → r ≢ 0 → 2 ^ n ≤ 64 * w + trailingZeros 64 r → none ≡ lowestZero n (inSet words) (cubeOf n c)
-  looked-past k ne l = first-not (λ x. has (cubeOf n c) x && inSet words x) (2 ^ n) (λ y b. test-is y ∙ below s k ne y (omega arith))
+pub and-test : (a b i : ℕ) → eqb (bit (bitAnd a b) i) 1 ≡ (eqb (bit b i) 1 && eqb (bit a i) 1)
+and-test a b i = ap (λ (y : ℕ). eqb y 1) (and-bits a b i) ∙ both-bits (a / 2 ^ i) (b / 2 ^ i)

@@ -1,12 +1,10 @@
--- The points of a cube as bits of the words of a set.
+-- The points of a cube by words of 64: inputs 0 to 5 choose the bit, the inputs from 6 on choose the word.
 use mathlib.Core.Path.{_≡_}
-use mathlib.Core.Bool.{Bool, _&&_}
-use mathlib.Core.List.{List}
 use Prim.Native.Nat.{ℕ, _/_, _%_, _^_, _<_}
 use lib.Bits.{bitAnd, bitXor}
 use lib.Dec.{eqb}
 use Rattle.hazard.specs.Cube.{bit}
-use Rattle.cube.specs.PointSet.{inSet}
+use Rattle.cube.specs.Mask.{Clean}
 use Rattle.cube.specs.declared.mask.Cube.{Cube}
 
 -- The inputs at which the point differs from the cube's literals, as bits: 0 for a point of the cube.
@@ -18,11 +16,7 @@ pub record Marks (c : Cube) (i m : ℕ) : Type 0 where
   pub small : m < 2 ^ (2 ^ i)
   pub marks : (x : ℕ) → eqb (bit m (x % 2 ^ i)) 1 ≡ eqb (differs c x % 2 ^ i) 0
 
--- The point is in the cube and in the set.
-abbrev pub inBoth : List ℕ → Cube → ℕ → Bool
-inBoth words c x = eqb (differs c x) 0 && inSet words x
-
--- The bits of r are the points of word w that are in the cube and in the set.
-pub record Common (words : List ℕ) (c : Cube) (w r : ℕ) : Type 0 where
-  pub small : r < 2 ^ 64
-  pub common : (x : ℕ) → x / 64 ≡ w → eqb (bit r (x % 64)) 1 ≡ inBoth words c x
+-- Word w differs from the cube h where its points differ from the cube c, at the inputs from 6 on: the points of h are the words with points of c.
+pub record Words (c h : Cube) : Type 0 where
+  pub fits : Clean 4 h
+  pub word : (x : ℕ) → differs h (x / 64) ≡ differs c x / 64

@@ -1,47 +1,30 @@
 // The points of a cube, 64 at a time: inputs 0 to 5 choose the bit of a word, the inputs from 6 on choose the word.
-ghost use Prim.Native.Nat.{_+_, _<_};
-ghost use lib.ListN.{length};
-ghost use Rattle.cube.specs.WordMask.{Marks, Common};
+ghost use Rattle.cube.specs.Mask.{Clean};
+ghost use Rattle.cube.specs.WordMask.{Marks, Words};
 use crate::mask::Cube;
-use crate::point::bit_of;
 
-// The mask m of the inputs below i, with input i taken in. Its value 1 is for the upper half of the bits.
-fn widened(c: Cube, i: usize, m: u64) -> u64
-    requires { ⌜ i < 6 ⌝ }
-    requires { ⌜ Marks c i m ⌝ }
-    ensures { λ r. ⌜ Marks c (i + 1) r ⌝ }
-{
-    let upper = m << (1usize << i);
-    if bit_of(c.care, i) == 0 {
-        return m | upper;
-    }
-    if bit_of(c.value, i) == 1 {
-        return upper;
-    }
-    m
-}
-
-// The bits of a word that are points of the cube, by inputs 0 to 5.
+// The bits of a word that are points of the cube, by inputs 0 to 5. An input without a literal sets the bits once more, moved by its
+// weight; at the end the literals that are 1 move them all. No step has a branch: an input with a literal moves the bits by 0.
 pub fn low_mask(c: Cube) -> u64
     ensures { λ r. ⌜ Marks c 6 r ⌝ }
 {
     let mut m = 1u64;
     let mut i = 0usize;
     while i < 6 {
-        m = widened(c, i, m);
+        let weight = 1usize << i;
+        m = m | (m << (weight ^ (c.care as usize & weight)));
         i += 1;
     }
-    m
+    m << ((c.care & c.value) % 64)
 }
 
-// The points of word w that are in the set and in the cube, whose mask is m.
-pub fn common_points(words: &[u64], w: usize, c: Cube, m: u64) -> u64
-    requires { ⌜ w < length (now words) ⌝ }
-    requires { ⌜ Marks c 6 m ⌝ }
-    ensures { λ r. ⌜ Common (now (words .entry)) c w r ⌝ }
+// The words that have points of the cube, as a cube of the inputs from 6 on.
+pub fn word_cube(c: Cube) -> Cube
+    requires { ⌜ Clean 10 c ⌝ }
+    ensures { λ r. ⌜ Words c r ⌝ }
 {
-    if (w ^ (c.value as usize / 64)) & (c.care as usize / 64) != 0 {
-        return 0;
+    Cube {
+        care: c.care / 64,
+        value: c.value / 64,
     }
-    words[w] & m
 }

@@ -6,21 +6,26 @@ ghost use Rattle.cube.specs.PointSet.{inSet};
 ghost use Rattle.problem.specs.Codes.{foundOf};
 ghost use Rattle.expand.specs.Ready.{Ready};
 use cube::mask::Cube;
-use cube::word_mask::common_points;
+use cube::point::next;
 use cube::word_mask::low_mask;
+use cube::word_mask::word_cube;
+use points::turn::set_points;
 use problem::scan::Found;
 
-// The lowest point of the OFF-set in the cube. Each word gives its 64 points at once: at most 16 words, where a cube has up to 1,024 points.
+// The lowest point of the OFF-set in the cube. Each word gives its 64 points at once, and only the words that have points of the cube are
+// looked at.
 pub fn lowest_zero(n: usize, off: &[u64], c: Cube) -> Found
     requires { ⌜ Ready n (now off) ⌝ }
     requires { ⌜ Clean n c ⌝ }
     ensures { λ r. ⌜ foundOf r ≡ lowestZero n (inSet (now (off .entry))) (cubeOf n c) ⌝ }
 {
     let size = 1usize << n;
+    let words = (size + 63) / 64;
     let m = low_mask(c);
-    let mut w = 0usize;
-    while 64 * w < size {
-        let common = common_points(off, w, c, m);
+    let h = word_cube(c);
+    let mut w = h.value as usize;
+    while w < words {
+        let common = set_points(off, w, m);
         if common != 0 {
             let x = 64 * w + u64::trailing_zeros(common) as usize;
             // Below 6 inputs a word has bits that are no points.
@@ -29,7 +34,7 @@ pub fn lowest_zero(n: usize, off: &[u64], c: Cube) -> Found
             }
             return Found::At(x as u16);
         }
-        w += 1;
+        w = next(4, h, w);
     }
     Found::Nothing
 }

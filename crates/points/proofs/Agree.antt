@@ -3,25 +3,29 @@ use mathlib.Core.Path.{_≡_, refl, sym, ap, ap₂, _∙_}
 use mathlib.Core.Bool.{Bool, true, false, not, _&&_}
 use mathlib.Core.List.{List}
 use mathlib.Core.Option.{Option, none, some}
-use Prim.Native.Nat.{ℕ, zero, suc, _+_, _^_, _≤_, _<_}
+use Prim.Native.Nat.{ℕ, zero, suc, _+_, _/_, _%_, _^_, _≤_, _<_}
+use native.Mathlib.Nat.{lt-of-lt-of-le}
 use native.Mathlib.Omega.{arith}
 use lib.Dec.{eqb}
 use lib.ListN.{length}
+use lib.Pow.{pow-mono}
 use Rattle.hazard.specs.Search.{found, first}
-use Rattle.hazard.specs.Cube.{Cube, flip, has}
+use Rattle.hazard.specs.Cube.{Cube, bit, flip, has}
 use Rattle.hazard.specs.Transition.{value, movable, further}
 use Rattle.hazard.proofs.Point.{flip-lt}
 use Rattle.cube.specs.declared.mask.Cube as masks
-use Rattle.cube.specs.Mask.{Stands}
-use Rattle.cube.specs.PointSet.{inSet}
-use Rattle.cube.specs.WordMask.{differs}
+use Rattle.cube.specs.Mask.{cubeOf, Clean, Stands}
+use Rattle.cube.specs.WordMask.{Marks, Words}
 use Rattle.cube.proofs.Masks.{has-masks}
+use Rattle.cube.proofs.ByWords.{word-bit}
+use Rattle.cube.specs.PointSet.{inSet}
 use Rattle.points.specs.PointWord.{PointsOf}
 use Rattle.points.specs.Plane.{Plane}
 use Rattle.points.specs.Further.{movesInto, furtherIn}
-use Rattle.points.specs.Turn.{turns, lasts, inCube}
+use Rattle.points.specs.Turn.{turns, lasts}
 use Rattle.points.proofs.PlaneWord.{valued-in, valued-out}
-use Rattle.points.proofs.Walk.{true-false, Agrees}
+use Rattle.points.proofs.TurnWord.{and-assoc}
+use Rattle.points.proofs.Walk.{true-false, Agrees, inWords}
 
 -- Tests that agree find the same.
 pub first-same : (s t : ℕ → Bool) (from size : ℕ) → ((x : ℕ) → from ≤ x → x < from + size → s x ≡ t x) → first s from size ≡ first t from size
@@ -44,15 +48,21 @@ further-is n {f} {words} {v} a b p e x l =
     ap found (first-same (λ i. movesInto (inSet words) a b i x) (λ i. movable a b x i && eqb (value f (flip x i)) v) 0 n
     (λ i u h. ap (λ (t : Bool). movable a b x i && t) (plane-in p (flip x i) (omega (arith, e, flip-lt n x i l (omega arith))))))
 
--- The points of a set of n inputs, in the cube.
-module _ {n : ℕ} {c : masks.Cube} {ds : Cube} (s : Stands n c ds) where
-  in-cube : (x : ℕ) → eqb (differs c x) 0 ≡ has ds x
-  in-cube x = has-masks n (c .care) (c .value) x (s .fits .small) ∙ ap (λ (d : Cube). has d x) (s .is)
+-- A cube of n inputs is one of 10.
+pub stands-ten : {n : ℕ} {c : masks.Cube} {ds : Cube} → Stands n c ds → n ≤ 10 → Clean 10 c
+stands-ten s h = record { small = lt-of-lt-of-le (s .fits .small) (pow-mono h); clean = s .fits .clean }
 
-  pub agrees : {test like : ℕ → Bool} → Agrees test like (2 ^ n) → Agrees (inCube c test) (λ x. has ds x && like x) (2 ^ n)
-  agrees a = record { in· = λ x l. ap₂ _&&_ (in-cube x) (a .in· x l); past = λ x l. ap (λ (b : Bool). eqb (differs c x) 0 && b) (a .past x l) ∙ gone (eqb (differs c x) 0) }
+-- The points of a cube that pass, by its words and its mask.
+module _ {n m : ℕ} {c h : masks.Cube} {ds : Cube} (s : Stands n c ds) (a : Marks c 6 m) (k : Words c h) where
+  pub words-cube : (test : ℕ → Bool) (x : ℕ) → inWords h m test x ≡ (has ds x && test x)
+  words-cube test x =
+      sym (and-assoc (has (cubeOf 4 h) (x / 64)) (eqb (bit m (x % 64)) 1) (test x))
+      ∙ ap (λ (b : Bool). b && test x) (word-bit k a x ∙ has-masks n (c .care) (c .value) x (s .fits .small) ∙ ap (λ (d : Cube). has d x) (s .is))
+
+  pub agrees : {test like : ℕ → Bool} {size : ℕ} → Agrees test like size → Agrees (inWords h m test) (λ x. has ds x && like x) size
+  agrees {test} g = record { in· = λ x l. words-cube test x ∙ ap (λ (b : Bool). has ds x && b) (g .in· x l); past = λ x l. words-cube test x ∙ ap (λ (b : Bool). has ds x && b) (g .past x l) ∙ gone (has ds x) }
     where
-      gone : (a : Bool) → (a && false) ≡ false
+      gone : (b : Bool) → (b && false) ≡ false
       gone true = refl
       gone false = refl
 

@@ -20,7 +20,7 @@ use Rattle.hazard.proofs.Test.{T-and}
 use Rattle.hazard.proofs.Point.{flip-up, flip-down, flip-lt}
 use Rattle.cube.specs.PointSet.{inSet}
 use Rattle.cube.proofs.Bits.{bit-case2, or-last}
-use Rattle.cube.proofs.WordMask.{high-bit, low-bit, mod-bit, no-bit, and-bits, both-bits}
+use Rattle.cube.proofs.WordMask.{high-bit, low-bit, mod-bit, no-bit, and-test}
 use Rattle.points.specs.PointWord.{WordOf}
 use Rattle.points.specs.Further.{Side, Within, movesFrom, movesInto, furtherIn}
 use Rattle.points.proofs.PlaneWord.{one-is}
@@ -109,7 +109,7 @@ module _ (word i : ℕ) (l : i < 6) where
   -- The bits of two words of which the second is a side.
   sided : {m v : ℕ} (a k : ℕ) → Side i v m → k < 64 → eqb (bit (bitAnd a m) k) 1 ≡ (eqb (bit k i) v && eqb (bit a k) 1)
   sided {m} {v} a k s h =
-      ap (λ (y : ℕ). eqb y 1) (and-bits a m k) ∙ both-bits (a / 2 ^ k) (m / 2 ^ k)
+      and-test a m k
       ∙ ap (λ (b : Bool). b && eqb (bit a k) 1) (ap (λ (y : ℕ). eqb y 1) (s .bits k h) ∙ one-is (eqb (bit k i) v))
 
   -- Where the first test fails the second does not matter.

@@ -19,9 +19,13 @@ use Rattle.hazard.proofs.Test.{so-not}
 use Rattle.hazard.proofs.Point.{bit-zero, bit-suc, flip-down, flip-same, flip-other}
 use Rattle.cube.proofs.Bits.{half-lt}
 use Rattle.cube.proofs.Scan.{left, those-skip}
-use Rattle.cube.proofs.WordMask.{Lowest, lowest-bit, no-bit}
+use Rattle.cube.specs.declared.mask.Cube.{Cube}
+use Rattle.cube.specs.Mask.{cubeOf}
+use Rattle.cube.specs.Next.{Next}
+use Rattle.cube.proofs.ByWords.{Lowest, lowest-bit}
+use Rattle.cube.proofs.WordMask.{no-bit}
 use Rattle.points.specs.PointWord.{WordOf, pointsIn, Below}
-use Rattle.points.proofs.Walk.{true-false, Agrees}
+use Rattle.points.proofs.Walk.{true-false, Agrees, inWords, Visit, visit-before, visit-gap}
 
 -- Tests that agree give the same list, ranges one after the other give lists one after the other, and where none passes there is none.
 those-same : (s t : ℕ → Bool) (from size : ℕ) → ((x : ℕ) → from ≤ x → x < from + size → s x ≡ t x) → those s from size ≡ those t from size
@@ -59,21 +63,33 @@ those-none t from (suc size) h = go (t from) (h from (omega arith) (omega arith)
 unfoldable pub ahead : (ℕ → Bool) → ℕ → List ℕ
 ahead test w = those test (64 * w) (1024 - 64 * w)
 
-pub ahead-start : {test like : ℕ → Bool} {size : ℕ} → Agrees test like size → size ≤ 1024 → ahead test 0 ≡ those like 0 size
+-- Words without points that pass may be skipped.
+ahead-skip : {test : ℕ → Bool} (w v : ℕ) → w ≤ v → ((x : ℕ) → w ≤ x / 64 → x / 64 < v → x / 64 < 16 → test x ≡ false) → ahead test w ≡ ahead test v
 unfolding ahead
-ahead-start {test} {like} {size} a h =
+ahead-skip {test} w v l h = those-skip test 1024 (64 * v - 64 * w) (64 * w) (64 * v) (omega arith) (λ x a b u. so-not (h x (omega arith) (omega arith) (omega arith)))
+
+ahead-all : {test like : ℕ → Bool} {size : ℕ} → Agrees test like size → size ≤ 1024 → ahead test 0 ≡ those like 0 size
+unfolding ahead
+ahead-all {test} {like} {size} a h =
     let e : 1024 ≡ size + (1024 - size) = omega arith in
     ap (those test 0) e ∙ those-split test 0 size (1024 - size)
     ∙ ap₂ (λ (l m : List ℕ). l ++ m) (those-same test like 0 size (λ x u l. a .in· x (omega arith))) (those-none test (0 + size) (1024 - size) (λ x u l. a .past x (omega arith)))
     ∙ append-nil (those like 0 size)
 
-pub ahead-more : {test : ℕ → Bool} {w r : ℕ} → WordOf test w r → w < 16 → ahead test w ≡ pointsIn w r ++ ahead test (w + 1)
+pub ahead-word : {test : ℕ → Bool} {w r : ℕ} → WordOf test w r → w < 16 → ahead test w ≡ pointsIn w r ++ ahead test (w + 1)
 unfolding ahead pointsIn
-ahead-more {test} {w} {r} s h =
+ahead-word {test} {w} {r} s h =
     let e : 1024 - 64 * w ≡ 64 + (1024 - 64 * (w + 1)) = omega arith in
     let q : 64 * w + 64 ≡ 64 * (w + 1) = omega arith in
     ap (those test (64 * w)) e ∙ those-split test (64 * w) 64 (1024 - 64 * (w + 1))
     ∙ ap₂ (λ (l m : List ℕ). l ++ m) (those-same test (λ x. eqb (bit r (x % 64)) 1) (64 * w) 64 (λ x u l. sym (s .bits x (omega arith)))) (ap (λ (k : ℕ). those test k (1024 - 64 * (w + 1))) q)
+
+-- A walk over the words of a cube.
+pub ahead-start : {h : Cube} {w : ℕ} → Visit h w → (m : ℕ) (test : ℕ → Bool) {like : ℕ → Bool} {size : ℕ} → Agrees (inWords h m test) like size → size ≤ 1024 → ahead (inWords h m test) (h .value) ≡ those like 0 size
+ahead-start {h} s m test a l = sym (ahead-skip 0 (h .value) (omega arith) (λ x u v w. visit-before s m test x v)) ∙ ahead-all a l
+
+pub ahead-more : {h : Cube} {w v : ℕ} → Visit h w → Next 4 (cubeOf 4 h) w v → (m : ℕ) (test : ℕ → Bool) {r : ℕ} → WordOf (inWords h m test) w r → w < 16 → ahead (inWords h m test) w ≡ pointsIn w r ++ ahead (inWords h m test) v
+ahead-more {w = w} {v = v} s q m test {r} p l = ahead-word p l ∙ ap (λ (k : List ℕ). pointsIn w r ++ k) (ahead-skip (w + 1) v (omega (arith, q .later)) (λ x a b u. visit-gap s m test q x (omega arith) b u))
 
 pub ahead-end : {test like : ℕ → Bool} {size : ℕ} (w : ℕ) → Agrees test like size → size ≤ 64 * w → ahead test w ≡ []
 unfolding ahead

@@ -9,15 +9,12 @@ use lib.ListN.{length}
 use Rattle.hazard.specs.Search.{first}
 use Rattle.hazard.specs.Cube.{has, span}
 use Rattle.hazard.specs.Transition.{Kind, low, rise, fall, high, kind, value, breaks, brokenAt, undefinedAt}
-use Rattle.cube.specs.declared.mask.Cube.{Cube}
-use Rattle.cube.specs.Mask.{Stands}
 use Rattle.cube.specs.PointSet.{inSet}
 use Rattle.points.specs.PointWord.{PointsOf}
 use Rattle.points.specs.Plane.{Plane}
 use Rattle.points.specs.Further.{furtherIn}
-use Rattle.points.specs.Turn.{inCube}
 use Rattle.points.proofs.Walk.{Agrees}
-use Rattle.points.proofs.Agree.{first-same, agrees, plane-agrees, turns-agree}
+use Rattle.points.proofs.Agree.{first-same, plane-agrees, turns-agree}
 use Rattle.problem.specs.Fault.{breaksIn, brokenIn}
 
 -- Only points of n inputs break a rule.
@@ -27,9 +24,8 @@ breaks-past n {zeros} rise a b p q x l = ap (λ (t : Bool). t && furtherIn n (in
 breaks-past n {ones = ones} fall a b p q x l = ap (λ (t : Bool). t && furtherIn n (inSet ones) a b x) (p .none x l)
 breaks-past n high a b p q x l = p .none x l
 
-pub breaks-agree : {n : ℕ} {c : Cube} {zeros ones : List ℕ} (k : Kind) (a b : ℕ) → Stands n c (span n a b) → PointsOf n zeros → PointsOf n ones
-    → Agrees (inCube c (breaksIn n (inSet zeros) (inSet ones) k a b)) (λ x. has (span n a b) x && breaksIn n (inSet zeros) (inSet ones) k a b x) (2 ^ n)
-breaks-agree {n} k a b s p q = agrees s (record { in· = λ x l. refl; past = λ x l. breaks-past n k a b p q x l })
+pub breaks-agree : (n : ℕ) {zeros ones : List ℕ} (k : Kind) (a b : ℕ) → PointsOf n zeros → PointsOf n ones → Agrees (breaksIn n (inSet zeros) (inSet ones) k a b) (breaksIn n (inSet zeros) (inSet ones) k a b) (2 ^ n)
+breaks-agree n k a b p q = record { in· = λ x l. refl; past = λ x l. breaks-past n k a b p q x l }
 
 found-same : (n a b : ℕ) (s t : ℕ → Bool) → Agrees s t (2 ^ n) → first (λ x. has (span n a b) x && s x) 0 (2 ^ n) ≡ first (λ x. has (span n a b) x && t x) 0 (2 ^ n)
 found-same n a b s t g = first-same (λ x. has (span n a b) x && s x) (λ x. has (span n a b) x && t x) 0 (2 ^ n) (λ x u l. ap (λ (y : Bool). has (span n a b) x && y) (g .in· x (omega arith)))

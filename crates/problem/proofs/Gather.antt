@@ -14,22 +14,20 @@ use lib.ListN.{length, take, set, length-append, length-set, length-map}
 use lib.Pow.{pow-mono, pow-pos, pow-lt}
 use lib.Seq.{take-suc-set, getD-set-same, getD-set-other}
 use Rattle.hazard.specs.Search.{those}
-use Rattle.hazard.specs.Cube.{flip, span}
+use Rattle.hazard.specs.Cube.{flip}
 use Rattle.hazard.specs.Transition.{Kind, low, rise, fall, high, kind, start, end, count}
 use Rattle.hazard.specs.Sets.{Privileged, labels, last, dynamic, startPoint, kindAt, requiredOf, requiredFrom, required, privilegedFrom}
-use Rattle.cube.specs.declared.mask.Cube as masks
-use Rattle.cube.specs.Mask.{Stands}
+use Rattle.cube.specs.declared.mask.Cube.{Cube}
+use Rattle.cube.specs.Mask.{cubeOf}
+use Rattle.cube.specs.Next.{Next}
 use Rattle.cube.specs.Entry.{CleanWord}
-use Rattle.cube.specs.PointSet.{inSet}
 use Rattle.cube.proofs.Points.{flip-xor}
-use Rattle.cube.proofs.WordMask.{lowest-bit}
+use Rattle.cube.proofs.ByWords.{lowest-bit}
 use Rattle.cube.proofs.Scan.{left}
 use Rattle.points.specs.PointWord.{WordOf, pointsIn, Below}
-use Rattle.points.specs.Plane.{Plane}
-use Rattle.points.specs.Turn.{lasts, inCube}
-use Rattle.points.proofs.Walk.{Agrees}
-use Rattle.points.proofs.Agree.{agrees, lasts-agree}
-use Rattle.points.proofs.Members.{ahead, ahead-start, ahead-more, ahead-end, points-count, points-none, points-more, cleared-less, cleared-below, lowest-below}
+use Rattle.points.specs.Turn.{masked}
+use Rattle.points.proofs.Walk.{Agrees, inWords, Visit, visit-word}
+use Rattle.points.proofs.Members.{ahead, ahead-word, ahead-start, ahead-more, ahead-end, points-count, points-none, points-more, cleared-less, cleared-below, lowest-below}
 use Rattle.problem.specs.Store.{Stored, Held, requiredTo, requiredFor, privilegedFor}
 
 -- No more pass than there are.
@@ -47,19 +45,19 @@ labels-few n f rise a b = those-few (last n f b a) 0 (2 ^ n)
 labels-few n f fall a b = those-few (last n f a b) 0 (2 ^ n)
 labels-few n f high a b = pow-pos n
 
--- A loop over the words that counts the points that pass.
-pub record Tally (test : ℕ → Bool) (w k total : ℕ) : Type 0 where
-  pub sum : k + length (ahead test w) ≡ total
+-- A loop over the words of a cube that counts the points that pass.
+pub record Tally (h : Cube) (m : ℕ) (test : ℕ → Bool) (w k total : ℕ) : Type 0 where
+  pub sum : k + length (ahead (inWords h m test) w) ≡ total
 
-pub tally-start : {test like : ℕ → Bool} {size : ℕ} → Agrees test like size → size ≤ 1024 → Tally test 0 0 (length (those like 0 size))
-tally-start a h = record { sum = omega (arith, ap length (ahead-start a h)) }
+pub tally-start : {h : Cube} {w : ℕ} → Visit h w → (m : ℕ) (test : ℕ → Bool) {like : ℕ → Bool} {size : ℕ} → Agrees (inWords h m test) like size → size ≤ 1024 → Tally h m test (h .value) 0 (length (those like 0 size))
+tally-start i m test a l = record { sum = omega (arith, ap length (ahead-start i m test a l)) }
 
-module _ {test : ℕ → Bool} {w k total : ℕ} (s : Tally test w k total) where
-  pub tally-more : w < 16 → {r : ℕ} → WordOf test w r → Tally test (w + 1) (k + ones r) total
-  tally-more l {r} p = record { sum = omega (arith, s .sum, ap length (ahead-more p l) ∙ length-append (pointsIn w r) (ahead test (w + 1)), points-count w r (p .small)) }
+module _ {h : Cube} {m : ℕ} {test : ℕ → Bool} {w k total : ℕ} (s : Tally h m test w k total) where
+  pub tally-more : {v : ℕ} → Visit h w → Next 4 (cubeOf 4 h) w v → w < 16 → {r : ℕ} → WordOf (masked m test) w r → Tally h m test v (k + ones r) total
+  tally-more {v} i q l {r} p = record { sum = omega (arith, s .sum, ap length (ahead-more i q m test (visit-word i m test l p) l) ∙ length-append (pointsIn w r) (ahead (inWords h m test) v), points-count w r (p .small)) }
 
-  pub tally-end : {like : ℕ → Bool} {size : ℕ} → Agrees test like size → size ≤ 64 * w → k ≡ total
-  tally-end a h = omega (arith, s .sum, ap length (ahead-end w a h))
+  pub tally-end : {like : ℕ → Bool} {size : ℕ} → Agrees (inWords h m test) like size → size ≤ 64 * w → k ≡ total
+  tally-end a l = omega (arith, s .sum, ap length (ahead-end w a l))
 
 -- A loop over the transitions that counts their required cubes.
 pub record Counted (n : ℕ) (f ts : List ℕ) (t total : ℕ) : Type 0 where
@@ -171,28 +169,27 @@ module _ {A : Type 0} {n : ℕ} {read : ℕ → A} {before after : List ℕ} {fr
   pub filling-end : rest ≡ [] → Stored n read before after from k whole
   filling-end e = rw (s .all, e, append-nil) (s .stored)
 
--- A loop over the words that stores an entry for each point that passes.
-pub record Walked {A : Type 0} (n : ℕ) (read entry : ℕ → A) (before after : List ℕ) (from k : ℕ) (test : ℕ → Bool) (w : ℕ) (whole : List ℕ) : Type 0 where
-  pub filling : Filling n read before after from k (map entry (ahead test w)) (map entry whole)
+-- A loop over the words of a cube that stores an entry for each point that passes.
+pub record Walked {A : Type 0} (n : ℕ) (read entry : ℕ → A) (before after : List ℕ) (from k : ℕ) (h : Cube) (m : ℕ) (test : ℕ → Bool) (w : ℕ) (whole : List ℕ) : Type 0 where
+  pub filling : Filling n read before after from k (map entry (ahead (inWords h m test) w)) (map entry whole)
 
-pub walked-start : {A : Type 0} (n : ℕ) (read entry : ℕ → A) (out : List ℕ) (from : ℕ) {test like : ℕ → Bool} {size : ℕ} → Agrees test like size → size ≤ 1024 → Walked n read entry out out from from test 0 (those like 0 size)
-walked-start n read entry out from a h = record { filling = rw (ahead-start a h) (filling-start n read out from _) }
+pub walked-start : {A : Type 0} (n : ℕ) (read entry : ℕ → A) (out : List ℕ) (from : ℕ) {h : Cube} {w : ℕ} → Visit h w → (m : ℕ) (test : ℕ → Bool) {like : ℕ → Bool} {size : ℕ} → Agrees (inWords h m test) like size → size ≤ 1024
+    → Walked n read entry out out from from h m test (h .value) (those like 0 size)
+walked-start n read entry out from i m test a l = record { filling = rw (ahead-start i m test a l) (filling-start n read out from _) }
 
--- One word, and the words after it.
-walked-word : {A : Type 0} (entry : ℕ → A) {test : ℕ → Bool} {w r : ℕ} → WordOf test w r → w < 16 → map entry (ahead test w) ≡ map entry (pointsIn w r) ++ map entry (ahead test (w + 1))
-walked-word entry {test} {w} {r} p l = ap (map entry) (ahead-more p l) ∙ map-append entry (pointsIn w r) (ahead test (w + 1))
+module _ {A : Type 0} {n : ℕ} {read entry : ℕ → A} {before after : List ℕ} {from k : ℕ} {h : Cube} {m : ℕ} {test : ℕ → Bool} {w : ℕ} {whole : List ℕ} (s : Walked n read entry before after from k h m test w whole) where
+  module _ (i : Visit h w) (l : w < 16) {r : ℕ} (p : WordOf (masked m test) w r) where
+    pub walked-room : from + length whole ≤ length before → k + length (pointsIn w r) ≤ length after
+    walked-room g =
+        let e = ap length (ahead-word (visit-word i m test l p) l) ∙ length-append (pointsIn w r) (ahead (inWords h m test) (w + 1)) in
+        omega (arith, filling-room (s .filling) (omega (arith, g, length-map whole entry)), e, length-map (ahead (inWords h m test) w) entry)
 
-module _ {A : Type 0} {n : ℕ} {read entry : ℕ → A} {before after : List ℕ} {from k : ℕ} {test : ℕ → Bool} {w : ℕ} {whole : List ℕ} (s : Walked n read entry before after from k test w whole) where
-  pub walked-room : {r : ℕ} → WordOf test w r → w < 16 → from + length whole ≤ length before → k + length (pointsIn w r) ≤ length after
-  walked-room {r} p l h =
-      let e = ap length (walked-word entry p l) ∙ length-append (map entry (pointsIn w r)) (map entry (ahead test (w + 1))) in
-      omega (arith, filling-room (s .filling) (omega (arith, h, length-map whole entry)), e, length-map (pointsIn w r) entry)
+    -- One word, and the words after it.
+    pub walked-more : {v : ℕ} → Next 4 (cubeOf 4 h) w v → {after′ : List ℕ} {k′ : ℕ} → Stored n read after after′ k k′ (map entry (pointsIn w r)) → Walked n read entry before after′ from k′ h m test v whole
+    walked-more {v} q t = record { filling = filling-more (s .filling) t (ap (map entry) (ahead-more i q m test (visit-word i m test l p) l) ∙ map-append entry (pointsIn w r) (ahead (inWords h m test) v)) }
 
-  pub walked-more : {r : ℕ} → WordOf test w r → w < 16 → {after′ : List ℕ} {k′ : ℕ} → Stored n read after after′ k k′ (map entry (pointsIn w r)) → Walked n read entry before after′ from k′ test (w + 1) whole
-  walked-more p l t = record { filling = filling-more (s .filling) t (walked-word entry p l) }
-
-  pub walked-end : {like : ℕ → Bool} {size : ℕ} → Agrees test like size → size ≤ 64 * w → Stored n read before after from k (map entry whole)
-  walked-end a h = filling-end (s .filling) (ap (map entry) (ahead-end w a h))
+  pub walked-end : {like : ℕ → Bool} {size : ℕ} → Agrees (inWords h m test) like size → size ≤ 64 * w → Stored n read before after from k (map entry whole)
+  walked-end a l = filling-end (s .filling) (ap (map entry) (ahead-end w a l))
 
 -- A loop over the points of one word that stores an entry for each: those of what is left of the word are to come.
 pub record Storing {A : Type 0} (n : ℕ) (read entry : ℕ → A) (before after : List ℕ) (from k w rest word : ℕ) : Type 0 where
@@ -235,10 +232,6 @@ module _ {A : Type 0} {n : ℕ} {read entry : ℕ → A} {before after : List �
 
   pub storing-end : rest ≡ 0 → Stored n read before after from k (map entry (pointsIn w word))
   storing-end e = filling-end (s .filling) (ap (λ (r : ℕ). map entry (pointsIn w r)) e ∙ ap (map entry) (points-none w))
-
--- The labels by words are those of the definition.
-pub label-agrees : {n : ℕ} {c : masks.Cube} {f ones : List ℕ} (s e : ℕ) → Stands n c (span n s e) → Plane f 1 ones → length f ≡ 2 ^ n → Agrees (inCube c (lasts n (inSet ones) s e)) (last n f s e) (2 ^ n)
-label-agrees {n} s e st p h = agrees st (lasts-agree n h s e p)
 
 -- A test adds at most one entry.
 pub entry-few : {A : Type 0} (b : Bool) (a : A) → length (cond b (a ∷ []) []) ≤ 1

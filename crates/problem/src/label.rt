@@ -8,7 +8,9 @@ ghost use Rattle.points.specs.Plane.{Plane};
 ghost use Rattle.problem.specs.Codes.{kindIs};
 use crate::kind::Kind;
 use cube::mask::span_of;
+use cube::point::next;
 use cube::word_mask::low_mask;
+use cube::word_mask::word_cube;
 use points::turn::last_points;
 
 // How many labels [S,E] has.
@@ -19,11 +21,13 @@ fn count_between(n: usize, table: &[u8], ones: &[u64], s: u16, e: u16) -> usize
 {
     let c = span_of(n, s, e);
     let m = low_mask(c);
+    let h = word_cube(c);
+    let words = (table.len() + 63) / 64;
     let mut k = 0usize;
-    let mut w = 0usize;
-    while 64 * w < table.len() {
-        k += u64::count_ones(last_points(n, ones, s, e, w, c, m)) as usize;
-        w += 1;
+    let mut w = h.value as usize;
+    while w < words {
+        k += u64::count_ones(last_points(n, ones, s, e, w, m)) as usize;
+        w = next(4, h, w);
     }
     k
 }

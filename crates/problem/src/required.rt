@@ -17,7 +17,9 @@ use crate::transition::end_of;
 use crate::transition::start_of;
 use cube::entry::pack;
 use cube::mask::span_of;
+use cube::point::next;
 use cube::word_mask::low_mask;
+use cube::word_mask::word_cube;
 use points::plane::plane_into;
 use points::turn::last_points;
 
@@ -91,12 +93,14 @@ fn labels_into(
 {
     let c = span_of(n, s, e);
     let m = low_mask(c);
+    let h = word_cube(c);
+    let words = (table.len() + 63) / 64;
     let mut k = at;
-    let mut w = 0usize;
-    while 64 * w < table.len() {
-        let labels = last_points(n, ones, s, e, w, c, m);
+    let mut w = h.value as usize;
+    while w < words {
+        let labels = last_points(n, ones, s, e, w, m);
         k = word_into(n, t, s, w, labels, out, k);
-        w += 1;
+        w = next(4, h, w);
     }
     k
 }

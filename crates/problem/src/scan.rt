@@ -1,20 +1,21 @@
-// The lowest point of a transition cube that is don't care, or where the rule of the kind is broken. Each word gives its 64 points at once.
+// The lowest point of a transition cube that is don't care, or where the rule of the kind is broken. Each word gives its 64 points at once,
+// and only the words that have points of the cube are looked at.
 ghost use mathlib.Core.Path.{_≡_};
 ghost use Prim.Native.Nat.{_≤_, _<_, _^_};
 ghost use lib.ListN.{length};
 ghost use Rattle.cube.specs.PointSet.{inSet};
-ghost use Rattle.cube.specs.WordMask.{Marks};
 ghost use Rattle.points.specs.PointWord.{WordOf, PointsOf};
 ghost use Rattle.points.specs.Plane.{Planes};
-ghost use Rattle.points.specs.Turn.{inCube};
+ghost use Rattle.points.specs.Turn.{masked};
 ghost use Rattle.problem.specs.Codes.{kindIs, foundOf};
 ghost use Rattle.problem.specs.Fault.{faultAt, breaksIn, brokenIn};
 use crate::kind::Kind;
 use crate::kind::kind_of;
-use cube::mask::Cube;
 use cube::mask::span_of;
-use cube::word_mask::common_points;
+use cube::point::next;
 use cube::word_mask::low_mask;
+use cube::word_mask::word_cube;
+use points::turn::set_points;
 use points::turn::turning_points;
 
 // What a search says.
@@ -23,8 +24,8 @@ pub enum Found {
     Nothing,
 }
 
-// The points of word w and of the cube, whose mask is m, where the rule of the kind is broken: the wrong value (static), or the point
-// before the wrong move (dynamic).
+// The points of word w, under the mask, where the rule of the kind is broken: the wrong value (static), or the point before the wrong move
+// (dynamic).
 fn broken_points(
     n: usize,
     k: Kind,
@@ -33,18 +34,16 @@ fn broken_points(
     a: u16,
     b: u16,
     w: usize,
-    c: Cube,
     m: u64,
 ) -> u64
     requires { ⌜ (n ≤ 10) × (length (now zeros) ≡ 16) × (length (now ones) ≡ 16) × (w < 16) ⌝ }
-    requires { ⌜ Marks c 6 m ⌝ }
-    ensures { λ r. ⌜ WordOf (inCube c (breaksIn n (inSet (now (zeros .entry))) (inSet (now (ones .entry))) (kindIs k) a b)) w r ⌝ }
+    ensures { λ r. ⌜ WordOf (masked m (breaksIn n (inSet (now (zeros .entry))) (inSet (now (ones .entry))) (kindIs k) a b)) w r ⌝ }
 {
     match k {
-        Kind::Low => common_points(ones, w, c, m),
-        Kind::Rise => turning_points(n, ones, zeros, a, b, w, c, m),
-        Kind::Fall => turning_points(n, zeros, ones, a, b, w, c, m),
-        Kind::High => common_points(zeros, w, c, m),
+        Kind::Low => set_points(ones, w, m),
+        Kind::Rise => turning_points(n, ones, zeros, a, b, w, m),
+        Kind::Fall => turning_points(n, zeros, ones, a, b, w, m),
+        Kind::High => set_points(zeros, w, m),
     }
 }
 
@@ -56,13 +55,15 @@ fn lowest_broken(n: usize, k: Kind, zeros: &[u64], ones: &[u64], a: u16, b: u16)
     let size = 1usize << n;
     let c = span_of(n, a, b);
     let m = low_mask(c);
-    let mut w = 0usize;
-    while 64 * w < size {
-        let broken = broken_points(n, k, zeros, ones, a, b, w, c, m);
+    let h = word_cube(c);
+    let words = (size + 63) / 64;
+    let mut w = h.value as usize;
+    while w < words {
+        let broken = broken_points(n, k, zeros, ones, a, b, w, m);
         if broken != 0 {
             return Found::At((64 * w + u64::trailing_zeros(broken) as usize) as u16);
         }
-        w += 1;
+        w = next(4, h, w);
     }
     Found::Nothing
 }

@@ -1,23 +1,27 @@
-use mathlib.Core.Path.{_≡_}
-use Prim.Native.Nat.{_-_, _≤_}
+use Prim.Native.Nat.{_-_}
 use native.Mathlib.Omega.{arith}
 use borrow.Author.Needs.{needs}
-use Rattle.cube.specs.WordMask.{Marks}
-use Rattle.cube.proofs.WordMask.{marks-start}
+use Rattle.cube.proofs.WordMask.{Widened, widened-start, widened-more, widened-end, free-small}
 use Rattle.cube.proofs.word_mask.low_mask.Statement.{statement}
 use Rattle.cube.proofs.word_mask.low_mask.Tie as tie
 
 abbrev Inv-loop : tie.InvT-loop
-Inv-loop c m₀ i₀ m i = (i ≤ 6) × Marks c i m
+Inv-loop c m₀ i₀ m i = Widened c i m
 
 abbrev μ-loop : tie.MeasureT-loop
 μ-loop c m₀ i₀ m i = 6 - i
 
 loop-holds : tie.Need-loop-holds Inv-loop μ-loop
-loop-holds c = (omega arith, marks-start _)
+loop-holds c = widened-start _
 
-widened-requires : tie.Need-widened-requires Inv-loop μ-loop
-widened-requires c κs = search needs
+shl-weight : tie.Need-shl-weight Inv-loop μ-loop
+shl-weight c = search needs
+
+cast-m : tie.Need-cast-m Inv-loop μ-loop
+cast-m c = search needs
+
+shl-m : tie.Need-shl-m Inv-loop μ-loop
+shl-m c = free-small (c .before .before .loop .i) (omega arith) (c .before .before .before .args .c .care)
 
 add-i : tie.Need-add-i Inv-loop μ-loop
 add-i c = search needs
@@ -26,13 +30,30 @@ loop-less : tie.Need-loop-less Inv-loop μ-loop
 loop-less c = search needs
 
 loop-again : tie.Need-loop-again Inv-loop μ-loop
-loop-again c = search needs
+loop-again c = widened-more (c .before .before .loop .inv) (omega arith)
+
+cast-result : tie.Need-cast-result Inv-loop μ-loop
+cast-result c = search needs
+
+shl-result : tie.Need-shl-result Inv-loop μ-loop
+shl-result c = search needs
 
 returns : tie.Need-returns Inv-loop μ-loop
-returns c =
-    let l = c .before .loop in
-    let e : l .i ≡ 6 = omega (arith, l .inv .0) in
-    rw e at (l .inv .1)
+returns c = widened-end (c .before .before .loop .inv) (omega arith)
 
 pub low-mask-spec : {M : Type 1} → statement M
-low-mask-spec = tie.close (tie.spec Inv-loop μ-loop loop-holds widened-requires add-i loop-less loop-again returns)
+low-mask-spec =
+    tie.close
+    (tie.spec
+    Inv-loop
+    μ-loop
+    loop-holds
+    shl-weight
+    cast-m
+    shl-m
+    add-i
+    loop-less
+    loop-again
+    cast-result
+    shl-result
+    returns)
