@@ -19,13 +19,13 @@ use Rattle.cube.proofs.Bits.{bit-case2, and-last, xor-last}
 use Rattle.cube.proofs.Points.{and-bit}
 
 -- Bits of a number of two parts.
-high-bit : (a k r : ℕ) {b : ℕ} → b < 2 ^ k → bit (a * 2 ^ k + b) (k + r) ≡ bit a r
+pub high-bit : (a k r : ℕ) {b : ℕ} → b < 2 ^ k → bit (a * 2 ^ k + b) (k + r) ≡ bit a r
 high-bit a k r {b} h = ap (λ (y : ℕ). y % 2) (sym (shr-shr (a * 2 ^ k + b) k r) ∙ ap (λ (y : ℕ). y / 2 ^ r) (high a k h))
 
 pub mod-bit : (y j r : ℕ) → bit (y % 2 ^ (suc j + r)) r ≡ bit y r
 mod-bit y j r = ap (λ (z : ℕ). z % 2) (field y (suc j) r) ∙ (rw (add-one j) at (mod-mod-pow (y / 2 ^ r) j 1))
 
-low-bit : (a k r : ℕ) {b : ℕ} → r < k → b < 2 ^ k → bit (a * 2 ^ k + b) r ≡ bit b r
+pub low-bit : (a k r : ℕ) {b : ℕ} → r < k → b < 2 ^ k → bit (a * 2 ^ k + b) r ≡ bit b r
 low-bit a k r {b} l h =
     let e : k ≡ suc (k - (r + 1)) + r = omega arith in
     sym (subst (λ (j : ℕ). bit ((a * 2 ^ k + b) % 2 ^ j) r ≡ bit (a * 2 ^ k + b) r) (sym e) (mod-bit (a * 2 ^ k + b) (k - (r + 1)) r))

@@ -9,6 +9,7 @@ use cube::mask::Cube;
 use cube::point::next;
 use cube::word_mask::low_mask;
 use cube::word_mask::word_cube;
+use points::turn::set_points;
 use problem::scan::Found;
 
 // The lowest point of the OFF-set in the cube. Each word gives its 64 points at once, and only the words that have points of the cube are
@@ -24,7 +25,7 @@ pub fn lowest_zero(n: usize, off: &[u64], c: Cube) -> Found
     let h = word_cube(c);
     let mut w = h.value as usize;
     while w < words {
-        let common = off[w] & m;
+        let common = set_points(off, w, m);
         if common != 0 {
             let x = 64 * w + u64::trailing_zeros(common) as usize;
             // Below 6 inputs a word has bits that are no points.

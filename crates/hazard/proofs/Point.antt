@@ -125,10 +125,10 @@ bit-point (suc n) g h (suc i) l = bit-suc (point (suc n) g) i ∙ ap (λ (x : �
     half = omega (arith, h 0)
 
 -- A move changes one input.
-flip-up : (x i : ℕ) → bit x i ≡ 0 → flip x i ≡ x + 2 ^ i
+pub flip-up : (x i : ℕ) → bit x i ≡ 0 → flip x i ≡ x + 2 ^ i
 flip-up x i e = cond-yes (eqb (bit x i) 0) (x + 2 ^ i) (x - 2 ^ i) (eqb-of e)
 
-flip-down : (x i : ℕ) → bit x i ≢ 0 → (flip x i ≡ x - 2 ^ i) × (2 ^ i ≤ x)
+pub flip-down : (x i : ℕ) → bit x i ≢ 0 → (flip x i ≡ x - 2 ^ i) × (2 ^ i ≤ x)
 flip-down x i ne =
     (cond-no (eqb (bit x i) 0) (x + 2 ^ i) (x - 2 ^ i) (λ t. ne (eqb→eq (bit x i) 0 t)), elim (decLt x (2 ^ i)) [ no l ↦ omega arith | yes l ↦ absurd (ne (rw (div-eq-of-lt l))) ])
 

@@ -9,7 +9,7 @@ use native.Mathlib.Omega.{arith}
 use native.Mathlib.Decide.{ℕ-discrete, decLt}
 use lib.Dec.{T}
 use lib.ListN.{length, getD, List·getD-eq-default}
-use lib.Pow.{pow-pos}
+use lib.Pow.{pow-pos, pow-mono}
 use Rattle.hazard.specs.Search.{firstOf}
 use Rattle.hazard.specs.Transition.{start, end, count}
 use Rattle.hazard.specs.Refusal as spec
@@ -58,6 +58,10 @@ module _ {x : Checked} {o : Option spec.Refusal} (e : checkedOf x ≡ o) where
 pub only : {p o : Option spec.Refusal} → p ≡ o → p ≡ firstOf (o ∷ [])
 only {o = none} e = e
 only {o = some r} e = e
+
+-- A table of at most 10 inputs.
+pub ready-few : {n : ℕ} {f ts : List ℕ} → Ready n f ts → length f ≤ 1024
+ready-few r = rw (r .whole) (pow-mono (r .small))
 
 -- What an accepted problem gives to the code that builds the sets.
 pub ready : (n : ℕ) (f ts : List ℕ) → n ≤ 10 → length f ≡ 2 ^ n → length ts % 2 ≡ 0 → count ts ≤ 64

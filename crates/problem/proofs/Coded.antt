@@ -1,28 +1,16 @@
 -- The bytes that were read, as the definitions' values.
-use mathlib.Core.Path.{_≡_, sym, ap, _∙_}
-use mathlib.Core.Bool.{true, false}
+use mathlib.Core.Path.{_≡_}
 use mathlib.Core.List.{List}
 use Prim.Native.Nat.{ℕ, _+_, _*_, _<_}
 use native.Mathlib.Omega.{arith}
-use lib.Dec.{eqb}
 use lib.ListN.{length, getD}
-use borrow.Author.Tests.{eq-eqb, ne-eqb}
+use borrow.Author.Tests.{ne-eqb}
 use Rattle.hazard.specs.Transition.{high, kindOf, value}
 use Rattle.cube.proofs.Scan.{getD-any}
 
 -- A read in range is the table's value.
 pub read-value : (f : List ℕ) (x : ℕ) → x < length f → getD f x 0 ≡ value f x
 read-value f x h = getD-any f x 0 2 h
-
-pub read-is : (f : List ℕ) (x v : ℕ) → x < length f → eqb (getD f x 0) v ≡ eqb (value f x) v
-read-is f x v h = ap (λ (u : ℕ). eqb u v) (read-value f x h)
-
--- The read gave v, or did not.
-pub read-yes : (f : List ℕ) (x v : ℕ) → x < length f → getD f x 0 ≡ v → eqb (value f x) v ≡ true
-read-yes f x v h e = eq-eqb (value f x) v (sym (read-value f x h) ∙ e)
-
-pub read-no : (f : List ℕ) (x v : ℕ) → x < length f → (getD f x 0 ≡ v → ⊥) → eqb (value f x) v ≡ false
-read-no f x v h e = ne-eqb (value f x) v (λ q. e (read-value f x h ∙ q))
 
 -- The number that selects the kind.
 pub code-at : (f : List ℕ) (a b : ℕ) → a < length f → b < length f → 2 * getD f a 0 + getD f b 0 ≡ 2 * value f a + value f b

@@ -1,25 +1,33 @@
 -- Loops that count or store: the invariant of each, where it starts, what a turn does to it, and where it ends.
 use mathlib.Core.Path.{_≡_, refl, sym, ap, _∙_}
-use mathlib.Core.Bool.{Bool, true, false, cond, _&&_}
+use mathlib.Core.Bool.{Bool, true, false, cond}
 use mathlib.Core.List.{List, [], _∷_, _++_, map, append-assoc, append-nil, map-append}
-use Prim.Native.Nat.{ℕ, zero, suc, _+_, _-_, _*_, _^_, _≤_, _<_}
-use native.Mathlib.Nat.{sub-zero, sub-eq-zero-of-le}
+use mathlib.Core.Logic.{_≢_}
+use Prim.Native.Nat.{ℕ, zero, suc, _+_, _-_, _*_, _%_, _^_, _≤_, _<_}
+use native.Mathlib.Nat.{sub-zero, sub-eq-zero-of-le, one-mul, mod-eq-of-lt}
 use native.Mathlib.Numerals.{add-one}
 use native.Mathlib.Omega.{arith}
 use native.Mathlib.Decide.{ℕ-discrete}
-use lib.Dec.{T}
+use lib.Bits.{bitXor}
+use lib.Count.{ones, trailingZeros}
 use lib.ListN.{length, take, set, length-append, length-set, length-map}
-use lib.Pow.{pow-mono, pow-pos}
+use lib.Pow.{pow-mono, pow-pos, pow-lt}
 use lib.Seq.{take-suc-set, getD-set-same, getD-set-other}
 use Rattle.hazard.specs.Search.{those}
-use Rattle.hazard.specs.Cube.{Cube, has}
+use Rattle.hazard.specs.Cube.{flip}
 use Rattle.hazard.specs.Transition.{Kind, low, rise, fall, high, kind, start, end, count}
 use Rattle.hazard.specs.Sets.{Privileged, labels, last, dynamic, startPoint, kindAt, requiredOf, requiredFrom, required, privilegedFrom}
-use Rattle.cube.specs.declared.mask.Cube as masks
-use Rattle.cube.specs.Mask.{cubeOf, Stands}
+use Rattle.cube.specs.declared.mask.Cube.{Cube}
+use Rattle.cube.specs.Mask.{cubeOf}
 use Rattle.cube.specs.Next.{Next}
 use Rattle.cube.specs.Entry.{CleanWord}
-use Rattle.cube.proofs.Scan.{left, thoseAhead, starts-in, those-start, those-here, those-next, those-done}
+use Rattle.cube.proofs.Points.{flip-xor}
+use Rattle.cube.proofs.ByWords.{lowest-bit}
+use Rattle.cube.proofs.Scan.{left}
+use Rattle.points.specs.PointWord.{WordOf, pointsIn, Below}
+use Rattle.points.specs.Turn.{masked}
+use Rattle.points.proofs.Walk.{Agrees, inWords, Visit, visit-word}
+use Rattle.points.proofs.Members.{ahead, ahead-word, ahead-start, ahead-more, ahead-end, points-count, points-none, points-more, cleared-less, cleared-below, lowest-below}
 use Rattle.problem.specs.Store.{Stored, Held, requiredTo, requiredFor, privilegedFor}
 
 -- No more pass than there are.
@@ -37,25 +45,19 @@ labels-few n f rise a b = those-few (last n f b a) 0 (2 ^ n)
 labels-few n f fall a b = those-few (last n f a b) 0 (2 ^ n)
 labels-few n f high a b = pow-pos n
 
--- A loop over the points of a cube that counts those that pass.
-pub record Tally (n : ℕ) (c : Cube) (test : ℕ → Bool) (x k total : ℕ) : Type 0 where
-  pub in· : x < 2 ^ n → T (has c x)
-  pub sum : k + length (thoseAhead n c test x) ≡ total
+-- A loop over the words of a cube that counts the points that pass.
+pub record Tally (h : Cube) (m : ℕ) (test : ℕ → Bool) (w k total : ℕ) : Type 0 where
+  pub sum : k + length (ahead (inWords h m test) w) ≡ total
 
-pub tally-start : {n : ℕ} {c : masks.Cube} {ds : Cube} → Stands n c ds → (test : ℕ → Bool) → Tally n (cubeOf n c) test (c .value) 0 (length (those (λ y. has ds y && test y) 0 (2 ^ n)))
-tally-start s test = record { in· = λ l. starts-in s; sum = omega (arith, ap length (those-start s test)) }
+pub tally-start : {h : Cube} {w : ℕ} → Visit h w → (m : ℕ) (test : ℕ → Bool) {like : ℕ → Bool} {size : ℕ} → Agrees (inWords h m test) like size → size ≤ 1024 → Tally h m test (h .value) 0 (length (those like 0 size))
+tally-start i m test a l = record { sum = omega (arith, ap length (ahead-start i m test a l)) }
 
-module _ {n : ℕ} {c : Cube} {test : ℕ → Bool} {x k total : ℕ} (s : Tally n c test x k total) where
-  pub tally-more : x < 2 ^ n → {y : ℕ} → Next n c x y → {j : ℕ} → j ≡ cond (test x) 1 0 → Tally n c test y (k + j) total
-  tally-more l {y} q {j} e =
-      record { in· = q .in·; sum = omega (arith, s .sum, simp length-append at (ap length (those-next n c test x l (s .in· l) q)), one (test x) e) }
-    where
-      one : (b : Bool) → j ≡ cond b 1 0 → length (cond b (x ∷ []) []) ≡ j
-      one true e = sym e
-      one false e = sym e
+module _ {h : Cube} {m : ℕ} {test : ℕ → Bool} {w k total : ℕ} (s : Tally h m test w k total) where
+  pub tally-more : {v : ℕ} → Visit h w → Next 4 (cubeOf 4 h) w v → w < 16 → {r : ℕ} → WordOf (masked m test) w r → Tally h m test v (k + ones r) total
+  tally-more {v} i q l {r} p = record { sum = omega (arith, s .sum, ap length (ahead-more i q m test (visit-word i m test l p) l) ∙ length-append (pointsIn w r) (ahead (inWords h m test) v), points-count w r (p .small)) }
 
-  pub tally-end : 2 ^ n ≤ x → k ≡ total
-  tally-end h = omega (arith, s .sum, ap length (those-done n c test x h))
+  pub tally-end : {like : ℕ → Bool} {size : ℕ} → Agrees (inWords h m test) like size → size ≤ 64 * w → k ≡ total
+  tally-end a l = omega (arith, s .sum, ap length (ahead-end w a l))
 
 -- A loop over the transitions that counts their required cubes.
 pub record Counted (n : ℕ) (f ts : List ℕ) (t total : ℕ) : Type 0 where
@@ -167,34 +169,71 @@ module _ {A : Type 0} {n : ℕ} {read : ℕ → A} {before after : List ℕ} {fr
   pub filling-end : rest ≡ [] → Stored n read before after from k whole
   filling-end e = rw (s .all, e, append-nil) (s .stored)
 
--- A loop over the points of a cube that stores an entry for each that passes.
-pub record Walked {A : Type 0} (n : ℕ) (read : ℕ → A) (entry : ℕ → A) (before after : List ℕ) (from k : ℕ) (c : Cube) (test : ℕ → Bool) (x : ℕ) (whole : List A) : Type 0 where
-  pub in· : x < 2 ^ n → T (has c x)
-  pub filling : Filling n read before after from k (map entry (thoseAhead n c test x)) whole
+-- A loop over the words of a cube that stores an entry for each point that passes.
+pub record Walked {A : Type 0} (n : ℕ) (read entry : ℕ → A) (before after : List ℕ) (from k : ℕ) (h : Cube) (m : ℕ) (test : ℕ → Bool) (w : ℕ) (whole : List ℕ) : Type 0 where
+  pub filling : Filling n read before after from k (map entry (ahead (inWords h m test) w)) (map entry whole)
 
-pub walked-start : {A : Type 0} {n : ℕ} (read entry : ℕ → A) (out : List ℕ) (from : ℕ) {c : masks.Cube} {ds : Cube} → Stands n c ds → (test : ℕ → Bool)
-    → Walked n read entry out out from from (cubeOf n c) test (c .value) (map entry (those (λ y. has ds y && test y) 0 (2 ^ n)))
-walked-start {n = n} read entry out from s test = record { in· = λ l. starts-in s; filling = rw (those-start s test) (filling-start n read out from _) }
+pub walked-start : {A : Type 0} (n : ℕ) (read entry : ℕ → A) (out : List ℕ) (from : ℕ) {h : Cube} {w : ℕ} → Visit h w → (m : ℕ) (test : ℕ → Bool) {like : ℕ → Bool} {size : ℕ} → Agrees (inWords h m test) like size → size ≤ 1024
+    → Walked n read entry out out from from h m test (h .value) (those like 0 size)
+walked-start n read entry out from i m test a l = record { filling = rw (ahead-start i m test a l) (filling-start n read out from _) }
 
-module _ {A : Type 0} {n : ℕ} {read entry : ℕ → A} {before after : List ℕ} {from k : ℕ} {c : Cube} {test : ℕ → Bool} {x : ℕ} {whole : List A} (s : Walked n read entry before after from k c test x whole) where
-  pub walked-room : x < 2 ^ n → from + length whole ≤ length before → k + length (cond (test x) (x ∷ []) []) ≤ length after
-  walked-room l h = omega (arith, simp length-map at (filling-room (s .filling) h), simp length-append at (ap length (those-here n c test x l (s .in· l))))
+module _ {A : Type 0} {n : ℕ} {read entry : ℕ → A} {before after : List ℕ} {from k : ℕ} {h : Cube} {m : ℕ} {test : ℕ → Bool} {w : ℕ} {whole : List ℕ} (s : Walked n read entry before after from k h m test w whole) where
+  module _ (i : Visit h w) (l : w < 16) {r : ℕ} (p : WordOf (masked m test) w r) where
+    pub walked-room : from + length whole ≤ length before → k + length (pointsIn w r) ≤ length after
+    walked-room g =
+        let e = ap length (ahead-word (visit-word i m test l p) l) ∙ length-append (pointsIn w r) (ahead (inWords h m test) (w + 1)) in
+        omega (arith, filling-room (s .filling) (omega (arith, g, length-map whole entry)), e, length-map (ahead (inWords h m test) w) entry)
 
-  pub walked-more : x < 2 ^ n → {y : ℕ} → Next n c x y → {after′ : List ℕ} {r : ℕ} → Stored n read after after′ k r (cond (test x) (entry x ∷ []) []) → Walked n read entry before after′ from r c test y whole
-  walked-more l {y} q t = record { in· = q .in·; filling = filling-more (s .filling) t (ap (map entry) (those-next n c test x l (s .in· l) q) ∙ map-append entry (cond (test x) (x ∷ []) []) (thoseAhead n c test y) ∙ ap (λ (p : List A). p ++ map entry (thoseAhead n c test y)) (mapped (test x))) }
-    where
-      mapped : (b : Bool) → map entry (cond b (x ∷ []) []) ≡ cond b (entry x ∷ []) []
-      mapped true = refl
-      mapped false = refl
+    -- One word, and the words after it.
+    pub walked-more : {v : ℕ} → Next 4 (cubeOf 4 h) w v → {after′ : List ℕ} {k′ : ℕ} → Stored n read after after′ k k′ (map entry (pointsIn w r)) → Walked n read entry before after′ from k′ h m test v whole
+    walked-more {v} q t = record { filling = filling-more (s .filling) t (ap (map entry) (ahead-more i q m test (visit-word i m test l p) l) ∙ map-append entry (pointsIn w r) (ahead (inWords h m test) v)) }
 
-  pub walked-end : 2 ^ n ≤ x → Stored n read before after from k whole
-  walked-end h = filling-end (s .filling) (ap (map entry) (those-done n c test x h))
+  pub walked-end : {like : ℕ → Bool} {size : ℕ} → Agrees (inWords h m test) like size → size ≤ 64 * w → Stored n read before after from k (map entry whole)
+  walked-end a l = filling-end (s .filling) (ap (map entry) (ahead-end w a l))
 
--- A test counts for at most one.
-pub one-few : (b : Bool) → cond b 1 0 ≤ 1
-one-few true = omega arith
-one-few false = omega arith
+-- A loop over the points of one word that stores an entry for each: those of what is left of the word are to come.
+pub record Storing {A : Type 0} (n : ℕ) (read entry : ℕ → A) (before after : List ℕ) (from k w rest word : ℕ) : Type 0 where
+  pub small : rest < 2 ^ 64
+  pub below : Below (2 ^ n) w rest
+  pub filling : Filling n read before after from k (map entry (pointsIn w rest)) (map entry (pointsIn w word))
 
+-- The code clears a bit by xor.
+clear-is : (r b : ℕ) → b < 64 → bitXor r ((1 * 2 ^ b) % 2 ^ 64) ≡ flip r b
+clear-is r b h = ap (bitXor r) (ap (λ (x : ℕ). x % 2 ^ 64) (one-mul (2 ^ b)) ∙ mod-eq-of-lt (pow-lt {i = b} {j = 64} h)) ∙ flip-xor r b
+
+pub storing-start : {A : Type 0} {n : ℕ} (read entry : ℕ → A) (out : List ℕ) (from : ℕ) {w word : ℕ} → word < 2 ^ 64 → Below (2 ^ n) w word → Storing n read entry out out from from w word word
+storing-start {n = n} read entry out from h b = record { small = h; below = b; filling = filling-start n read out from _ }
+
+module _ {A : Type 0} {n : ℕ} {read entry : ℕ → A} {before after : List ℕ} {from k w rest word : ℕ} (s : Storing n read entry before after from k w rest word) where
+  pub storing-bit : rest ≢ 0 → trailingZeros 64 rest < 64
+  storing-bit ne = lowest-bit 64 rest (s .small) ne .inside
+
+  pub storing-less : rest ≢ 0 → bitXor rest ((1 * 2 ^ trailingZeros 64 rest) % 2 ^ 64) < rest
+  storing-less ne = rw (clear-is rest (trailingZeros 64 rest) (storing-bit ne)) (cleared-less w rest (s .small) ne)
+
+  pub storing-below : rest ≢ 0 → 64 * w + trailingZeros 64 rest < 2 ^ n
+  storing-below ne = lowest-below w rest (s .small) ne (s .below)
+
+  pub storing-room : rest ≢ 0 → from + length (pointsIn w word) ≤ length before → k < length after
+  storing-room ne h =
+      let e = length-map (pointsIn w word) entry in
+      let g = length-map (pointsIn w rest) entry in
+      omega (arith, filling-room (s .filling) (omega (arith, h, e)), g, ap length (points-more w rest (s .small) ne))
+
+  pub storing-more : rest ≢ 0 → {after′ : List ℕ} {r : ℕ} → Stored n read after after′ k r (entry (64 * w + trailingZeros 64 rest) ∷ [])
+      → Storing n read entry before after′ from r w (bitXor rest ((1 * 2 ^ trailingZeros 64 rest) % 2 ^ 64)) word
+  storing-more ne t =
+      rw (clear-is rest (trailingZeros 64 rest) (storing-bit ne))
+      (record {
+        small = omega (arith, s .small, cleared-less w rest (s .small) ne);
+        below = cleared-below w rest (s .small) ne (s .below);
+        filling = filling-more (s .filling) t (ap (map entry) (points-more w rest (s .small) ne));
+      })
+
+  pub storing-end : rest ≡ 0 → Stored n read before after from k (map entry (pointsIn w word))
+  storing-end e = filling-end (s .filling) (ap (λ (r : ℕ). map entry (pointsIn w r)) e ∙ ap (map entry) (points-none w))
+
+-- A test adds at most one entry.
 pub entry-few : {A : Type 0} (b : Bool) (a : A) → length (cond b (a ∷ []) []) ≤ 1
 entry-few true a = omega arith
 entry-few false a = omega arith

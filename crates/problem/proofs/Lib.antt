@@ -2,5 +2,5 @@ pub mod Coded
 pub mod Word
 pub mod Gather
 pub mod Checks
-pub mod Off
 pub mod Parts
+pub mod Faults

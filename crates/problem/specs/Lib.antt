@@ -1,7 +1,5 @@
 pub mod Answer
 pub mod Codes
-pub mod Label
-pub mod OffWord
 pub mod Ready
 pub mod Store
 pub mod Fault

@@ -8,16 +8,18 @@ ghost use lib.ListN.{length};
 ghost use Rattle.hazard.specs.Search.{firstOf};
 ghost use Rattle.hazard.specs.Transition.{count};
 ghost use Rattle.hazard.specs.Refusal.{refusal, inputsCheck, lengthCheck, bytesCheck, listCheck, endsCheck, manyCheck, inputChecks};
+ghost use Rattle.points.specs.Plane.{Plane, Planes};
 ghost use Rattle.problem.specs.Answer.{checkedOf, senseChecks, transitionChecks};
 ghost use Rattle.problem.specs.Fault.{pointsCheck};
 ghost use Rattle.problem.specs.Ready.{Ready};
 use crate::refusal::Checked;
 use crate::refusal::refuse;
-use crate::required::count_required;
+use crate::required::count_by;
 use crate::scan::Found;
 use crate::scan::fault_at;
 use crate::transition::end_of;
 use crate::transition::start_of;
+use points::plane::plane_into;
 
 // A refusal as what a check says.
 fn refused(number: u16, transition: u16, point: u16) -> Checked
@@ -112,8 +114,17 @@ fn check_ends(n: usize, transitions: &[u16]) -> Checked
 }
 
 // 6: a don't care in some [A,B]; or 7: the rule of the kind is broken. The first such transition, the lowest point.
-fn check_points(number: u16, n: usize, table: &[u8], transitions: &[u16]) -> Checked
+fn check_points(
+    number: u16,
+    n: usize,
+    table: &[u8],
+    transitions: &[u16],
+    zeros: &[u64],
+    ones: &[u64],
+    twos: &[u64],
+) -> Checked
     requires { ⌜ Ready n (now table) (now transitions) ⌝ }
+    requires { ⌜ Planes (now table) (now zeros) (now ones) (now twos) ⌝ }
     ensures { λ r. ⌜ checkedOf r ≡ pointsCheck number n (now (table .entry)) (now (transitions .entry)) ⌝ }
 {
     let count = transitions.len() / 2;
@@ -121,7 +132,7 @@ fn check_points(number: u16, n: usize, table: &[u8], transitions: &[u16]) -> Che
     while t < count {
         let a = start_of(transitions, t);
         let b = end_of(transitions, t);
-        if let Found::At(x) = fault_at(number, n, table, a, b) {
+        if let Found::At(x) = fault_at(number, n, table, zeros, ones, twos, a, b) {
             return refused(number, t as u16, x);
         }
         t += 1;
@@ -130,14 +141,37 @@ fn check_points(number: u16, n: usize, table: &[u8], transitions: &[u16]) -> Che
 }
 
 // 8: more than 2,048 required cubes.
-fn check_many(n: usize, table: &[u8], transitions: &[u16]) -> Checked
+fn check_many(n: usize, table: &[u8], transitions: &[u16], ones: &[u64]) -> Checked
     requires { ⌜ Ready n (now table) (now transitions) ⌝ }
+    requires { ⌜ Plane (now table) 1 (now ones) ⌝ }
     ensures { λ r. ⌜ checkedOf r ≡ manyCheck n (now (table .entry)) (now (transitions .entry)) ⌝ }
 {
-    if 2048 < count_required(n, table, transitions) {
+    if 2048 < count_by(n, table, transitions, ones) {
         return refused(8, 0, 0);
     }
     Checked::Accepted
+}
+
+// Checks 6 to 8, by the planes of the table.
+fn check_planes(
+    n: usize,
+    table: &[u8],
+    transitions: &[u16],
+    zeros: &[u64],
+    ones: &[u64],
+    twos: &[u64],
+) -> Checked
+    requires { ⌜ Ready n (now table) (now transitions) ⌝ }
+    requires { ⌜ Planes (now table) (now zeros) (now ones) (now twos) ⌝ }
+    ensures { λ r. ⌜ checkedOf r ≡ firstOf (senseChecks n (now (table .entry)) (now (transitions .entry))) ⌝ }
+{
+    if let Checked::Refused(r) = check_points(6, n, table, transitions, zeros, ones, twos) {
+        return Checked::Refused(r);
+    }
+    if let Checked::Refused(r) = check_points(7, n, table, transitions, zeros, ones, twos) {
+        return Checked::Refused(r);
+    }
+    check_many(n, table, transitions, ones)
 }
 
 // Checks 6 to 8: what needs a table and transitions between its points.
@@ -145,13 +179,13 @@ fn check_sense(n: usize, table: &[u8], transitions: &[u16]) -> Checked
     requires { ⌜ Ready n (now table) (now transitions) ⌝ }
     ensures { λ r. ⌜ checkedOf r ≡ firstOf (senseChecks n (now (table .entry)) (now (transitions .entry))) ⌝ }
 {
-    if let Checked::Refused(r) = check_points(6, n, table, transitions) {
-        return Checked::Refused(r);
-    }
-    if let Checked::Refused(r) = check_points(7, n, table, transitions) {
-        return Checked::Refused(r);
-    }
-    check_many(n, table, transitions)
+    let mut zeros = [0u64; 16];
+    let mut ones = [0u64; 16];
+    let mut twos = [0u64; 16];
+    plane_into(table, 0, &mut zeros);
+    plane_into(table, 1, &mut ones);
+    plane_into(table, 2, &mut twos);
+    check_planes(n, table, transitions, &zeros, &ones, &twos)
 }
 
 // Checks 4 to 8: what needs a table of 2^n points.

@@ -1,9 +1,7 @@
 // The problem: a table and transitions, checked, and the sets made from them.
 pub mod check;
-pub mod further;
 pub mod kind;
 pub mod label;
-pub mod off_set;
 pub mod privileged;
 pub mod refusal;
 pub mod required;

@@ -5,9 +5,9 @@ ghost use lib.ListN.{length};
 ghost use Rattle.hazard.specs.Sets as sets;
 ghost use Rattle.problem.specs.Ready.{Ready};
 ghost use Rattle.problem.specs.Store.{StoredSets};
-use crate::off_set::off_set;
 use crate::privileged::privileged_into;
 use crate::required::required_into;
+use points::plane::plane_into;
 
 // How many privileged and how many required cubes there are.
 pub struct Counts {
@@ -29,7 +29,7 @@ pub fn sets_into(
     ensures { λ r. ⌜ (r .privileged ≤ length (now (privileged .entry))) × (r .required ≤ length (now (required .entry)))
         × StoredSets n (now (table .entry)) (now (transitions .entry)) (now (off .exit)) (now (privileged .exit)) (now (required .exit)) (r .privileged) (r .required) ⌝ }
 {
-    off_set(table, off);
+    plane_into(table, 0, off);
     Counts {
         privileged: privileged_into(n, table, transitions, privileged),
         required: required_into(n, table, transitions, required),

@@ -8,23 +8,23 @@ use borrow.Author.Needs.{needs}
 use Rattle.problem.proofs.check.check_many.Statement.{statement}
 use Rattle.problem.proofs.check.check_many.Tie as tie
 
-count-required-requires : tie.Need-count-required-requires
-count-required-requires c κs = search needs
+count-by-requires : tie.Need-count-by-requires
+count-by-requires c κs = search needs
 
 refused-requires : tie.Need-refused-requires
 refused-requires c κs = search needs
 
 returns : tie.Need-returns
 returns c =
-    let a = c .before .before .before .before .before .args in
+    let a = c .before .before .before .before .before .before .args in
     let m = length (required (a .n) (a .table .now) (a .transitions .now)) in
-    c .refused .ensures ∙ refuse-yes (ltb 2048 m) 8 (lt→ltb 2048 m (omega (arith, c .before .before .count-required .ensures, c .before .if1 .taken)))
+    c .refused .ensures ∙ refuse-yes (ltb 2048 m) 8 (lt→ltb 2048 m (omega (arith, c .before .before .count-by .ensures, c .before .if1 .taken)))
 
 returns-2 : tie.Need-returns-2
 returns-2 c =
-    let a = c .before .before .before .before .args in
+    let a = c .before .before .before .before .before .args in
     let m = length (required (a .n) (a .table .now) (a .transitions .now)) in
-    refuse-no (ltb 2048 m) 8 (λ t. omega (arith, ltb→lt 2048 m t, c .before .count-required .ensures, c .if1 .left))
+    refuse-no (ltb 2048 m) 8 (λ t. omega (arith, ltb→lt 2048 m t, c .before .count-by .ensures, c .if1 .left))
 
 pub check-many-spec : {M : Type 1} → statement M
-check-many-spec = tie.close (tie.spec count-required-requires refused-requires returns returns-2)
+check-many-spec = tie.close (tie.spec count-by-requires refused-requires returns returns-2)

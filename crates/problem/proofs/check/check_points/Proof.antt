@@ -14,12 +14,12 @@ use Rattle.problem.proofs.check.check_points.Statement.{statement}
 use Rattle.problem.proofs.check.check_points.Tie as tie
 
 abbrev Inv-loop : tie.InvT-loop
-Inv-loop number n table transitions count t₀ t =
+Inv-loop number n table transitions zeros ones twos count t₀ t =
     Places (λ k. faultAt number n table (start transitions k) (end transitions k)) (spec.count transitions) t
     (firstPlace (λ k. faultAt number n table (start transitions k) (end transitions k)) 0 (spec.count transitions))
 
 abbrev μ-loop : tie.MeasureT-loop
-μ-loop number n table transitions count t₀ t = spec.count transitions - t
+μ-loop number n table transitions zeros ones twos count t₀ t = spec.count transitions - t
 
 loop-holds : tie.Need-loop-holds Inv-loop μ-loop
 loop-holds c = places-start _ _
@@ -32,8 +32,9 @@ end-of-requires c κs = search needs
 
 fault-at-requires : tie.Need-fault-at-requires Inv-loop μ-loop
 fault-at-requires c κs =
-    let s = c .before .before .before .before .before .before in
-    (s .pre .small, s .pre .whole, omega (arith, c .before .start-of .ensures, s .pre .within (2 * c .before .before .before .loop .t)), omega (arith, c .end-of .ensures, s .pre .within (2 * c .before .before .before .loop .t + 1)))
+    let s = c .before .before .before .before .before .before .before .before .before in
+    let r = s .pre .0 in
+    ((r .small, r .whole, omega (arith, c .before .start-of .ensures, r .within (2 * c .before .before .before .loop .t)), omega (arith, c .end-of .ensures, r .within (2 * c .before .before .before .loop .t + 1))), s .pre .1)
 
 enum-known-x : tie.Need-enum-known-x Inv-loop μ-loop
 enum-known-x c = search needs
@@ -45,12 +46,12 @@ refused-requires : tie.Need-refused-requires Inv-loop μ-loop
 refused-requires c κs = search needs
 
 -- What was found between the definition's ends.
-looked : (c : tie.After-fault-at Inv-loop μ-loop) → let a = c .before .before .before .before .before .before .before .args in faultAt (a .number) (a .n) (a .table .now) (start (a .transitions .now) (c .before .before .before .before .loop .t)) (end (a .transitions .now) (c .before .before .before .before .loop .t)) ≡ foundOf (c .fault-at .result)
-looked c = ap₂ (faultAt (c .before .before .before .before .before .before .before .args .number) (c .before .before .before .before .before .before .before .args .n) (c .before .before .before .before .before .before .before .args .table .now)) (sym (c .before .before .start-of .ensures)) (sym (c .before .end-of .ensures)) ∙ sym (c .fault-at .ensures)
+looked : (c : tie.After-fault-at Inv-loop μ-loop) → let a = c .before .before .before .before .before .before .before .before .before .before .args in faultAt (a .number) (a .n) (a .table .now) (start (a .transitions .now) (c .before .before .before .before .loop .t)) (end (a .transitions .now) (c .before .before .before .before .loop .t)) ≡ foundOf (c .fault-at .result)
+looked c = ap₂ (faultAt (c .before .before .before .before .before .before .before .before .before .before .args .number) (c .before .before .before .before .before .before .before .before .before .before .args .n) (c .before .before .before .before .before .before .before .before .before .before .args .table .now)) (sym (c .before .before .start-of .ensures)) (sym (c .before .end-of .ensures)) ∙ sym (c .fault-at .ensures)
 
 returns : tie.Need-returns Inv-loop μ-loop
 returns c =
-    let a = c .before .before .before .before .before .before .before .before .before .before .before .args in
+    let a = c .before .before .before .before .before .before .before .before .before .before .before .before .before .before .args in
     c .refused .ensures ∙ ap (Option·map (λ p. refusal (a .number) (p .0) (p .1))) (places-hit (c .before .before .before .before .before .before .before .before .loop .inv) (omega arith) (looked (c .before .before .before .before) ∙ ap foundOf (c .before .before .x .given .1)))
 
 enum-told : tie.Need-enum-told Inv-loop μ-loop
@@ -66,7 +67,7 @@ loop-again : tie.Need-loop-again Inv-loop μ-loop
 loop-again c = places-miss (c .before .before .before .before .before .before .loop .inv) (omega arith) (looked (c .before .before) ∙ ap foundOf (c .enum-told .given .1))
 
 returns-2 : tie.Need-returns-2 Inv-loop μ-loop
-returns-2 c = ap (Option·map (λ p. refusal (c .before .before .before .before .args .number) (p .0) (p .1))) (places-end (c .before .loop .inv) (omega arith))
+returns-2 c = ap (Option·map (λ p. refusal (c .before .before .before .before .before .before .before .args .number) (p .0) (p .1))) (places-end (c .before .loop .inv) (omega arith))
 
 pub check-points-spec : {M : Type 1} → statement M
 check-points-spec =

@@ -1,61 +1,54 @@
-use mathlib.Core.List.{[], _∷_}
-use Rattle.hazard.specs.Refusal.{rulesCheck, manyCheck}
-use Rattle.problem.proofs.Checks.{first-refused, first-passed, only}
+use mathlib.Core.Path.{refl}
+use Rattle.problem.proofs.Checks.{ready-few}
 use borrow.Author.Needs.{needs}
 use Rattle.problem.proofs.check.check_sense.Statement.{statement}
 use Rattle.problem.proofs.check.check_sense.Tie as tie
 
-check-points-requires : tie.Need-check-points-requires
-check-points-requires c κs = search needs
+slice-aggregate-plane-into : tie.Need-slice-aggregate-plane-into
+slice-aggregate-plane-into c = search needs
 
-enum-known-r : tie.Need-enum-known-r
-enum-known-r c = search needs
+plane-into-requires : tie.Need-plane-into-requires
+plane-into-requires c κs = (ready-few (c .before .before .before .pre), refl)
+
+slice-aggregate-plane-into-2 : tie.Need-slice-aggregate-plane-into-2
+slice-aggregate-plane-into-2 c = search needs
+
+plane-into-requires-2 : tie.Need-plane-into-requires-2
+plane-into-requires-2 c κs = (ready-few (c .before .before .before .before .before .before .pre), refl)
+
+slice-aggregate-plane-into-3 : tie.Need-slice-aggregate-plane-into-3
+slice-aggregate-plane-into-3 c = search needs
+
+plane-into-requires-3 : tie.Need-plane-into-requires-3
+plane-into-requires-3 c κs = (ready-few (c .before .before .before .before .before .before .before .before .before .pre), refl)
+
+slice-aggregate-check-planes : tie.Need-slice-aggregate-check-planes
+slice-aggregate-check-planes c = search needs
+
+slice-aggregate-check-planes-2 : tie.Need-slice-aggregate-check-planes-2
+slice-aggregate-check-planes-2 c = search needs
+
+slice-aggregate-check-planes-3 : tie.Need-slice-aggregate-check-planes-3
+slice-aggregate-check-planes-3 c = search needs
+
+check-planes-requires : tie.Need-check-planes-requires
+check-planes-requires c κs = search needs
 
 returns : tie.Need-returns
-returns c =
-    let a = c .before .before .before .before .before .before .args in
-    first-refused (c .before .before .before .check-points .ensures) (c .before .r .given .1) (rulesCheck (a .n) (a .table .now) (a .transitions .now) ∷ manyCheck (a .n) (a .table .now) (a .transitions .now) ∷ [])
-
-enum-told : tie.Need-enum-told
-enum-told c = search needs
-
-check-points-requires-2 : tie.Need-check-points-requires-2
-check-points-requires-2 c κs = search needs
-
-enum-known-r-2 : tie.Need-enum-known-r-2
-enum-known-r-2 c = search needs
-
-returns-2 : tie.Need-returns-2
-returns-2 c =
-    let a = c .before .before .before .before .before .before .before .before .before .args in
-    let l = manyCheck (a .n) (a .table .now) (a .transitions .now) ∷ [] in
-    first-passed (c .before .before .before .before .before .before .check-points .ensures) (c .before .before .before .before .enum-told .given .1) (rulesCheck (a .n) (a .table .now) (a .transitions .now) ∷ l)
-    (first-refused (c .before .before .before .check-points2 .ensures) (c .before .r2 .given .1) l)
-
-enum-told-2 : tie.Need-enum-told-2
-enum-told-2 c = search needs
-
-check-many-requires : tie.Need-check-many-requires
-check-many-requires c κs = search needs
-
-returns-3 : tie.Need-returns-3
-returns-3 c =
-    let a = c .before .before .before .before .before .before .before .before .before .args in
-    let l = manyCheck (a .n) (a .table .now) (a .transitions .now) ∷ [] in
-    first-passed (c .before .before .before .before .before .before .check-points .ensures) (c .before .before .before .before .enum-told .given .1) (rulesCheck (a .n) (a .table .now) (a .transitions .now) ∷ l)
-    (first-passed (c .before .before .before .check-points2 .ensures) (c .before .enum-told2 .given .1) l (only (c .check-many .ensures)))
+returns c = search needs
 
 pub check-sense-spec : {M : Type 1} → statement M
 check-sense-spec =
     tie.close
     (tie.spec
-    check-points-requires
-    enum-known-r
-    returns
-    enum-told
-    check-points-requires-2
-    enum-known-r-2
-    returns-2
-    enum-told-2
-    check-many-requires
-    returns-3)
+    slice-aggregate-plane-into
+    plane-into-requires
+    slice-aggregate-plane-into-2
+    plane-into-requires-2
+    slice-aggregate-plane-into-3
+    plane-into-requires-3
+    slice-aggregate-check-planes
+    slice-aggregate-check-planes-2
+    slice-aggregate-check-planes-3
+    check-planes-requires
+    returns)

@@ -35,10 +35,10 @@ known : (n : ℕ) (f : List ℕ) (a b : ℕ) {k j : Kind} → k ≡ j → length
 known n f a b e = ap (λ k. length (labels n f (kindIs k) a b)) (sym e)
 
 returns-2 : tie.Need-returns-2
-returns-2 c = let a = c .before .before .before .before .args in c .count-between .ensures ∙ known (a .n) (a .table .now) (a .a) (a .b) (c .before .enum-told2 .given .1)
+returns-2 c = let a = c .before .before .before .before .before .args in c .count-between .ensures ∙ known (a .n) (a .table .now) (a .a) (a .b) (c .before .enum-told2 .given .1)
 
 returns-3 : tie.Need-returns-3
-returns-3 c = let a = c .before .before .before .before .args in c .count-between2 .ensures ∙ known (a .n) (a .table .now) (a .a) (a .b) (c .before .enum-told3 .given .1)
+returns-3 c = let a = c .before .before .before .before .before .args in c .count-between2 .ensures ∙ known (a .n) (a .table .now) (a .a) (a .b) (c .before .enum-told3 .given .1)
 
 returns-4 : tie.Need-returns-4
 returns-4 c = search needs

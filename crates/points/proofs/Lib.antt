@@ -1,0 +1,6 @@
+pub mod PlaneWord
+pub mod FurtherWord
+pub mod TurnWord
+pub mod Walk
+pub mod Agree
+pub mod Members

@@ -1,0 +1,4 @@
+pub mod PointWord
+pub mod Plane
+pub mod Further
+pub mod Turn

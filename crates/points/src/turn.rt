@@ -1,0 +1,41 @@
+// The points of a set under a mask from which a move further, on the way from one point to another, leads into a set, or does not. Where the
+// set has no points under the mask the moves are not looked at.
+ghost use mathlib.Core.Path.{_≡_};
+ghost use Prim.Native.Nat.{_≤_, _<_};
+ghost use lib.ListN.{length};
+ghost use Rattle.cube.specs.PointSet.{inSet};
+ghost use Rattle.points.specs.PointWord.{WordOf};
+ghost use Rattle.points.specs.Turn.{turns, lasts, masked};
+use crate::further::further_word;
+
+// The points of word w that are in the set, under the mask.
+pub fn set_points(set: &[u64], w: usize, m: u64) -> u64
+    requires { ⌜ w < length (now set) ⌝ }
+    ensures { λ r. ⌜ WordOf (masked m (inSet (now (set .entry)))) w r ⌝ }
+{
+    set[w] & m
+}
+
+// The points of word w that are in the set `from`, under the mask, and from which some move leads into the set `to`.
+pub fn turning_points(n: usize, from: &[u64], to: &[u64], a: u16, b: u16, w: usize, m: u64) -> u64
+    requires { ⌜ (n ≤ 10) × (length (now from) ≡ 16) × (length (now to) ≡ 16) × (w < 16) ⌝ }
+    ensures { λ r. ⌜ WordOf (masked m (turns n (inSet (now (from .entry))) (inSet (now (to .entry))) a b)) w r ⌝ }
+{
+    let common = set_points(from, w, m);
+    if common == 0 {
+        return 0;
+    }
+    common & further_word(n, to, a, b, w)
+}
+
+// The points of word w that are in the set, under the mask, and from which no move leads into the set.
+pub fn last_points(n: usize, set: &[u64], s: u16, e: u16, w: usize, m: u64) -> u64
+    requires { ⌜ (n ≤ 10) × (length (now set) ≡ 16) × (w < 16) ⌝ }
+    ensures { λ r. ⌜ WordOf (masked m (lasts n (inSet (now (set .entry))) s e)) w r ⌝ }
+{
+    let common = set_points(set, w, m);
+    if common == 0 {
+        return 0;
+    }
+    common ^ (common & further_word(n, set, s, e, w))
+}
