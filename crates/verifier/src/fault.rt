@@ -66,13 +66,7 @@ fn fault_c(n: usize, privileged: &[u64], legal: &[u64], products: &[u64]) -> Pla
 }
 
 // (b) in the order of required cubes. The products are the rows of the columns; `rows` is room for a set of them.
-fn fault_b(
-    n: usize,
-    required: &[u64],
-    products: &[u64],
-    columns: &[u64],
-    rows: &mut [u64],
-) -> Unmet
+fn fault_b(n: usize, required: &[u64], products: &[u64], columns: &[u64], rows: &mut [u64]) -> Unmet
     requires { ⌜ (n ≤ 10) × (length (now rows) ≤ 32) × (length (now products) ≤ 64 * length (now rows)) ⌝ }
     requires { ⌜ Containing n (now products) (now columns) ⌝ }
     ensures { λ r. ⌜ unmetOf n r ≡ spec.faultB (map (requiredIn n) (now (required .entry))) (networkIn n (now (products .entry))) ⌝ }

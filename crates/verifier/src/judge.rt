@@ -7,11 +7,11 @@ ghost use Rattle.hazard.specs.Verdict as spec;
 ghost use Rattle.problem.specs.Ready.{Ready};
 ghost use Rattle.verifier.specs.Answer.{verdictOf};
 ghost use Rattle.verifier.specs.Network.{Sound};
-use blocks::fill::blocks_into;
-use columns::relation::Relation;
 use crate::fault::Verdict;
 use crate::fault::first_fault;
 use crate::network::read_network;
+use blocks::fill::blocks_into;
+use columns::relation::Relation;
 use expand::meeting::columns_into;
 use problem::sets::sets_into;
 

@@ -53,9 +53,11 @@ loop-less c = search needs
 loop-again : tie.Need-loop-again Inv-loop μ-loop
 loop-again c =
     let a = c .before .before .before .before .before .before .before .before .before .before .before .before .args in
-    let l = c .before .before .before .before .before .before .before .loop in
-    (c .before .before .before .covers .kept .1 .1 .1 .0 ∙ l .inv .0, find-miss (λ (r : Required). not (covered (networkIn (a .n) (a .products .now)) (r .cube))) (requiredIn (a .n)) (l .inv .1) (omega arith)
-    (ap not (sym (c .before .before .before .covers .ensures)) ∙ c .if1 .left))
+    let l = c .before .before .before .before .before .before .before .loop in (
+      c .before .before .before .covers .kept .1 .1 .1 .0 ∙ l .inv .0,
+      find-miss (λ (r : Required). not (covered (networkIn (a .n) (a .products .now)) (r .cube))) (requiredIn (a .n)) (l .inv .1) (omega arith)
+          (ap not (sym (c .before .before .before .covers .ensures)) ∙ c .if1 .left),
+    )
 
 same-length-2 : tie.Need-same-length-2 Inv-loop μ-loop
 same-length-2 c = search needs
