@@ -5,7 +5,7 @@ use mathlib.Core.List.{List, map}
 use Prim.Native.Nat.{ℕ, _+_, _-_, _*_, _/_, _≤_}
 use native.Mathlib.Nat.{sub-zero}
 use native.Mathlib.Omega.{arith}
-use lib.ListN.{length, getD, take, length-map}
+use lib.ListN.{length, getD, take, length-map, length-take}
 use lib.Seq.{length-take-le}
 use Rattle.hazard.specs.Transition as transition
 use Rattle.hazard.specs.Sets.{Privileged, Required, privileged}
@@ -18,6 +18,10 @@ use Rattle.problem.specs.Store.{StoredSets}
 use Rattle.choice.specs.Network.{cubeIn, networkIn}
 use Rattle.verifier.specs.Network.{Sound, Read}
 use Rattle.verifier.proofs.Bytes.{products-length}
+
+-- A part from 0 has no more words than the whole.
+pub part-few : (l : List ℕ) {b : ℕ} → length l ≡ b → (k : ℕ) → length (take k l) ≤ b
+part-few l e k = omega (arith, length-take k l, e)
 
 module _ {n : ℕ} {bytes words : List ℕ} {m : ℕ} (read : Read n bytes words m) where
   part-size : length (take m words) ≡ length bytes / n
@@ -35,7 +39,7 @@ module _ {n : ℕ} {bytes words : List ℕ} {m : ℕ} (read : Read n bytes words
 
   -- With it, of the room for a set of products, one word for each 64.
   module _ (rows : List ℕ) (room : length bytes / n ≤ 64 * length rows) where
-    pub rows-low : (m + 63) / 64 ≤ length rows
+    rows-low : (m + 63) / 64 ≤ length rows
     rows-low = omega (arith, read-size)
 
     rows-size : length (take ((m + 63) / 64 - 0) rows) ≡ (m + 63) / 64

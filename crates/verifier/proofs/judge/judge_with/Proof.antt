@@ -1,11 +1,8 @@
-use Prim.Native.Nat.{_-_}
-use Rattle.verifier.proofs.Judging.{read-few, read-clean, read-size, rows-low, rows-few, rows-enough, judged}
-use Rattle.expand.proofs.Ready.{off-ready}
-use Rattle.problem.proofs.Parts.{parts}
 use mathlib.Core.Path.{_∙_}
-use native.Mathlib.Omega.{arith}
-use lib.Seq.{length-take-le}
 use borrow.Author.Needs.{needs}
+use Rattle.problem.proofs.Parts.{parts}
+use Rattle.expand.proofs.Ready.{off-ready}
+use Rattle.verifier.proofs.Judging.{part-few, read-size, read-few, read-clean, rows-few, rows-enough, judged}
 use Rattle.verifier.proofs.judge.judge_with.Statement.{statement}
 use Rattle.verifier.proofs.judge.judge_with.Tie as tie
 
@@ -28,7 +25,8 @@ columns-into-requires : tie.Need-columns-into-requires
 columns-into-requires c κs =
     let s = c .before .before .before .before .before .before .before .before .before .before .before .before .before .before .before .before .before .before .before .before .before .before .before .before .before .before .before in
     let o = c .before .before .before .before .before .before .before .before .before .before .before .before .before .sets-into in
-    (s .pre .0 .2 .small, omega (arith, length-take-le (o .result .privileged - 0) (o .last .1 .1 .1 .1 .0) (omega (arith, o .ensures .0, o .kept .1 .1 .1 .1 .0)), o .ensures .0, s .pre .1 .0 .1), s .pre .1 .1 .0)
+    let few = part-few (o .last .1 .1 .1 .1 .0) (o .kept .1 .1 .1 .1 .0 ∙ s .pre .1 .0 .1) in
+    (s .pre .0 .2 .small, search few, s .pre .1 .1 .0)
 
 sub-blocks-into : tie.Need-sub-blocks-into
 sub-blocks-into c = search needs
@@ -85,7 +83,7 @@ part-first-fault-start-4 c = search needs
 part-first-fault-end-4 : tie.Need-part-first-fault-end-4
 part-first-fault-end-4 c =
     let s = c .before .before .before .before .before .before .before .before .before .before .before .before .before .before .before .before .before .before .before .before .before .before .before .before .before .before .before .before .before .before .before .before .before .before .before .before .before .before .before .before .before .before .before .before .before in
-    rows-low (c .before .before .before .before .before .before .before .before .before .before .before .before .before .before .before .before .before .before .before .before .before .before .before .read-network .ensures) (s .args .rows .now) (s .pre .1 .1 .3)
+    search (needs, read-size (c .before .before .before .before .before .before .before .before .before .before .before .before .before .before .before .before .before .before .before .before .before .before .before .read-network .ensures), s .pre .1 .1 .3)
 
 first-fault-requires : tie.Need-first-fault-requires
 first-fault-requires c κs =
