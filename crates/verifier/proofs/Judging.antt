@@ -20,8 +20,8 @@ use Rattle.verifier.specs.Network.{Sound, Read}
 use Rattle.verifier.proofs.Bytes.{products-length}
 
 -- A part from 0 has no more words than the whole.
-pub part-few : (l : List ℕ) {b : ℕ} → length l ≡ b → (k : ℕ) → length (take k l) ≤ b
-part-few l e k = omega (arith, length-take k l, e)
+pub part-few : (l : List ℕ) (b : ℕ) → length l ≤ b → (k : ℕ) → length (take k l) ≤ b
+part-few l b h k = omega (arith, length-take k l, h)
 
 module _ {n : ℕ} {bytes words : List ℕ} {m : ℕ} (read : Read n bytes words m) where
   part-size : length (take m words) ≡ length bytes / n
@@ -44,9 +44,6 @@ module _ {n : ℕ} {bytes words : List ℕ} {m : ℕ} (read : Read n bytes words
 
     rows-size : length (take ((m + 63) / 64 - 0) rows) ≡ (m + 63) / 64
     rows-size = rw (sub-zero ((m + 63) / 64)) (length-take-le ((m + 63) / 64) rows rows-low)
-
-    pub rows-few : length rows ≤ 32 → length (take ((m + 63) / 64 - 0) rows) ≤ 32
-    rows-few l = omega (arith, rows-size, rows-low)
 
     pub rows-enough : length (take (m - 0) words) ≤ 64 * length (take ((m + 63) / 64 - 0) rows)
     rows-enough = rw (rows-size, sub-zero m, part-size) (omega (arith, read-size))

@@ -1,8 +1,9 @@
 use mathlib.Core.Path.{_∙_}
+use native.Mathlib.Omega.{arith}
 use borrow.Author.Needs.{needs}
 use Rattle.problem.proofs.Parts.{parts}
 use Rattle.expand.proofs.Ready.{off-ready}
-use Rattle.verifier.proofs.Judging.{part-few, read-size, read-few, read-clean, rows-few, rows-enough, judged}
+use Rattle.verifier.proofs.Judging.{part-few, read-size, read-few, read-clean, rows-enough, judged}
 use Rattle.verifier.proofs.judge.judge_with.Statement.{statement}
 use Rattle.verifier.proofs.judge.judge_with.Tie as tie
 
@@ -25,8 +26,8 @@ columns-into-requires : tie.Need-columns-into-requires
 columns-into-requires c κs =
     let s = c .before .before .before .before .before .before .before .before .before .before .before .before .before .before .before .before .before .before .before .before .before .before .before .before .before .before .before in
     let o = c .before .before .before .before .before .before .before .before .before .before .before .before .before .sets-into in
-    let few = part-few (o .last .1 .1 .1 .1 .0) (o .kept .1 .1 .1 .1 .0 ∙ s .pre .1 .0 .1) in
-    (s .pre .0 .2 .small, search few, s .pre .1 .1 .0)
+    let few = part-few (o .last .1 .1 .1 .1 .0) 64 (omega (arith, o .kept .1 .1 .1 .1 .0, s .pre .1 .0 .1)) in
+    (s .pre .0 .2 .small, search (needs, few), s .pre .1 .1 .0)
 
 sub-blocks-into : tie.Need-sub-blocks-into
 sub-blocks-into c = search needs
@@ -90,9 +91,10 @@ first-fault-requires c κs =
     let s = c .before .before .before .before .before .before .before .before .before .before .before .before .before .before .before .before .before .before .before .before .before .before .before .before .before .before .before .before .before .before .before .before .before .before .before .before .before .before .before .before .before .before .before .before .before .before in
     let o = c .before .before .before .before .before .before .before .before .before .before .before .before .before .before .before .before .before .before .before .before .before .before .before .before .before .before .before .before .before .before .before .before .sets-into in
     let r = c .before .before .before .before .before .before .before .before .before .before .before .before .before .before .before .before .before .before .before .before .before .before .before .before .read-network .ensures in
-    let rows = s .args .rows .now in (
+    let rows = s .args .rows .now in
+    let few = part-few rows 32 (s .pre .1 .1 .2) in (
       (off-ready (s .pre .0 .2 .small) (o .kept .1 .1 .1 .0 ∙ s .pre .1 .0 .0), c .before .before .before .before .before .before .before .before .before .before .before .before .before .before .before .before .before .before .columns-into .ensures, read-few r (s .pre .0 .2)),
-      (read-clean r, (rows-few r rows (s .pre .1 .1 .3) (s .pre .1 .1 .2), rows-enough r rows (s .pre .1 .1 .3), c .before .before .before .before .before .before .before .before .before .before .before .before .blocks-into .ensures)),
+      (read-clean r, (search few, rows-enough r rows (s .pre .1 .1 .3), c .before .before .before .before .before .before .before .before .before .before .before .before .blocks-into .ensures)),
     )
 
 same-length : tie.Need-same-length
