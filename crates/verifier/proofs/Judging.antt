@@ -1,11 +1,12 @@
 -- What the conditions say of the stored sets and products, they say of the problem's and the network's.
-use mathlib.Core.Path.{_≡_, ap, ap₂, _∙_}
+use mathlib.Core.Path.{_≡_, sym, ap, ap₂, _∙_}
 use mathlib.Core.Bool.{Bool}
 use mathlib.Core.List.{List, map}
-use Prim.Native.Nat.{ℕ, _-_, _≤_}
+use Prim.Native.Nat.{ℕ, _+_, _-_, _*_, _/_, _≤_}
 use native.Mathlib.Nat.{sub-zero}
 use native.Mathlib.Omega.{arith}
-use lib.ListN.{length, getD, take, length-map}
+use lib.ListN.{length, getD, take, length-map, length-take}
+use lib.Seq.{length-take-le}
 use Rattle.hazard.specs.Transition as transition
 use Rattle.hazard.specs.Sets.{Privileged, Required, privileged}
 use Rattle.hazard.specs.Cover.{Network}
@@ -18,13 +19,34 @@ use Rattle.choice.specs.Network.{cubeIn, networkIn}
 use Rattle.verifier.specs.Network.{Sound, Read}
 use Rattle.verifier.proofs.Bytes.{products-length}
 
+-- A part from 0 has no more words than the whole.
+pub part-few : (l : List ℕ) (b : ℕ) → length l ≤ b → (k : ℕ) → length (take k l) ≤ b
+part-few l b h k = omega (arith, length-take k l, h)
+
 module _ {n : ℕ} {bytes words : List ℕ} {m : ℕ} (read : Read n bytes words m) where
+  part-size : length (take m words) ≡ length bytes / n
+  part-size = sym (length-map (take m words) (cubeIn n)) ∙ ap (λ (l : Network). length l) (read .is) ∙ products-length n bytes
+
+  pub read-size : m ≡ length bytes / n
+  read-size = sym (length-take-le m words (read .low)) ∙ part-size
+
   -- The part of the words from 0 to m is handed on.
   pub read-few : Sound n bytes → length (take (m - 0) words) ≤ 2048
-  read-few s = rw (sub-zero m) (omega (arith, s .few, length-map (take m words) (cubeIn n), ap (λ (l : Network). length l) (read .is), products-length n bytes))
+  read-few s = rw (sub-zero m, part-size) (s .few)
 
   pub read-clean : (i : ℕ) → CleanWord n (getD (take (m - 0) words) i 0)
   read-clean = rw (sub-zero m) (taken-clean n m words (read .clean))
+
+  -- With it, of the room for a set of products, one word for each 64.
+  module _ (rows : List ℕ) (room : length bytes / n ≤ 64 * length rows) where
+    rows-low : (m + 63) / 64 ≤ length rows
+    rows-low = omega (arith, read-size)
+
+    rows-size : length (take ((m + 63) / 64 - 0) rows) ≡ (m + 63) / 64
+    rows-size = rw (sub-zero ((m + 63) / 64)) (length-take-le ((m + 63) / 64) rows rows-low)
+
+    pub rows-enough : length (take (m - 0) words) ≤ 64 * length (take ((m + 63) / 64 - 0) rows)
+    rows-enough = rw (rows-size, sub-zero m, part-size) (omega (arith, read-size))
 
 -- The first fault, from the sets and the network.
 abbrev faultOf : ℕ → (ℕ → Bool) → List Privileged → List Required → Network → spec.Verdict

@@ -1,13 +1,15 @@
 // The three conditions, each with its first failure.
 ghost use mathlib.Core.Path.{_≡_};
 ghost use mathlib.Core.List.{map};
-ghost use Prim.Native.Nat.{ℕ, _≤_};
+ghost use Prim.Native.Nat.{ℕ, _*_, _≤_};
 ghost use lib.ListN.{length, getD};
 ghost use Rattle.hazard.specs.Verdict as spec;
 ghost use Rattle.cube.specs.Entry.{requiredIn, privilegedIn, CleanWord};
 ghost use Rattle.cube.specs.PointSet.{inSet};
+ghost use Rattle.expand.specs.Columns.{Columns};
 ghost use Rattle.expand.specs.Ready.{Ready};
 ghost use Rattle.choice.specs.Network.{networkIn};
+ghost use Rattle.choice.specs.Rows.{Containing};
 ghost use Rattle.verifier.specs.Answer.{placeOf, unmetOf, verdictOf};
 use choice::cover::covers;
 use cube::entry::cube_in;
@@ -47,15 +49,15 @@ fn fault_a(n: usize, off: &[u64], products: &[u64]) -> Place
     Place::Nothing
 }
 
-// (c) by product and then transition.
-fn fault_c(n: usize, privileged: &[u64], products: &[u64]) -> Place
-    requires { ⌜ length (now products) ≤ 2048 ⌝ }
+// (c) by product and then transition. `legal` are the columns of the privileged cubes.
+fn fault_c(n: usize, privileged: &[u64], legal: &[u64], products: &[u64]) -> Place
+    requires { ⌜ Columns n (now privileged) (now legal) × (length (now products) ≤ 2048) ⌝ }
     requires { ⌜ ((i : ℕ) → CleanWord n (getD (now products) i 0)) ⌝ }
     ensures { λ r. ⌜ placeOf r ≡ spec.faultC (map (privilegedIn n) (now (privileged .entry))) (networkIn n (now (products .entry))) ⌝ }
 {
     let mut j = 0;
     while j < products.len() {
-        if let Met::At(w) = first_illegal(privileged, cube_in(products[j])) {
+        if let Met::At(w) = first_illegal(n, privileged, legal, cube_in(products[j])) {
             return Place::At(j as u16, transition_in(w));
         }
         j += 1;
@@ -63,15 +65,16 @@ fn fault_c(n: usize, privileged: &[u64], products: &[u64]) -> Place
     Place::Nothing
 }
 
-// (b) in the order of required cubes.
-fn fault_b(n: usize, required: &[u64], products: &[u64]) -> Unmet
-    requires { ⌜ ((i : ℕ) → CleanWord n (getD (now products) i 0)) ⌝ }
+// (b) in the order of required cubes. The products are the rows of the columns; `rows` is room for a set of them.
+fn fault_b(n: usize, required: &[u64], products: &[u64], columns: &[u64], rows: &mut [u64]) -> Unmet
+    requires { ⌜ (n ≤ 10) × (length (now rows) ≤ 32) × (length (now products) ≤ 64 * length (now rows)) ⌝ }
+    requires { ⌜ Containing n (now products) (now columns) ⌝ }
     ensures { λ r. ⌜ unmetOf n r ≡ spec.faultB (map (requiredIn n) (now (required .entry))) (networkIn n (now (products .entry))) ⌝ }
 {
     let mut k = 0;
     while k < required.len() {
         let w = required[k];
-        if !covers(n, products, w) {
+        if !covers(n, products, columns, rows, w) {
             return Unmet::At(w);
         }
         k += 1;
@@ -91,16 +94,20 @@ pub enum Verdict {
     Uncovered(u16, u16),
 }
 
-// The first fault: (a), then (c), then (b).
+// The first fault: (a), then (c), then (b). The columns of the privileged cubes and of the products are lent with them, and room for a set of products.
 pub fn first_fault(
     n: usize,
     off: &[u64],
     privileged: &[u64],
+    legal: &[u64],
     required: &[u64],
     products: &[u64],
+    columns: &[u64],
+    rows: &mut [u64],
 ) -> Verdict
-    requires { ⌜ Ready n (now off) × (length (now products) ≤ 2048) ⌝ }
+    requires { ⌜ Ready n (now off) × Columns n (now privileged) (now legal) × (length (now products) ≤ 2048) ⌝ }
     requires { ⌜ ((i : ℕ) → CleanWord n (getD (now products) i 0)) ⌝ }
+    requires { ⌜ (length (now rows) ≤ 32) × (length (now products) ≤ 64 * length (now rows)) × Containing n (now products) (now columns) ⌝ }
     ensures { λ r. ⌜ verdictOf r
         ≡ spec.firstFault (spec.faultA n (inSet (now (off .entry))) (networkIn n (now (products .entry))))
         (spec.faultC (map (privilegedIn n) (now (privileged .entry))) (networkIn n (now (products .entry))))
@@ -109,10 +116,10 @@ pub fn first_fault(
     if let Place::At(j, x) = fault_a(n, off, products) {
         return Verdict::HoldsZero(j, x);
     }
-    if let Place::At(j, k) = fault_c(n, privileged, products) {
+    if let Place::At(j, k) = fault_c(n, privileged, legal, products) {
         return Verdict::Intersects(j, k);
     }
-    match fault_b(n, required, products) {
+    match fault_b(n, required, products, columns, rows) {
         Unmet::At(w) => Verdict::Uncovered(transition_in(w), point_in(w)),
         Unmet::Nothing => Verdict::Passed,
     }

@@ -1,6 +1,6 @@
 // The first fault of a network that is not refused.
 ghost use mathlib.Core.Path.{_≡_};
-ghost use Prim.Native.Nat.{_/_, _≤_};
+ghost use Prim.Native.Nat.{_*_, _/_, _≤_};
 ghost use lib.ListN.{length};
 ghost use Rattle.hazard.specs.Sets as sets;
 ghost use Rattle.hazard.specs.Verdict as spec;
@@ -10,9 +10,12 @@ ghost use Rattle.verifier.specs.Network.{Sound};
 use crate::fault::Verdict;
 use crate::fault::first_fault;
 use crate::network::read_network;
+use blocks::fill::blocks_into;
+use columns::relation::Relation;
+use expand::meeting::columns_into;
 use problem::sets::sets_into;
 
-// The problem's sets and the network's products are stored in the lent room, and the conditions are tried on them.
+// The problem's sets and the network's products are stored in the lent room with their columns, and the conditions are tried on them.
 fn judge_with(
     n: usize,
     table: &[u8],
@@ -20,18 +23,34 @@ fn judge_with(
     network: &[u8],
     off: &mut [u64],
     privileged: &mut [u64],
+    legal: &mut [u64],
     required: &mut [u64],
     products: &mut [u64],
+    columns: &mut [u64],
+    rows: &mut [u64],
 ) -> Verdict
     requires { ⌜ Ready n (now table) (now transitions) × (length (sets.required n (now table) (now transitions)) ≤ 2048) × Sound n (now network) ⌝ }
-    requires { ⌜ (length (now off) ≡ 16) × (64 ≤ length (now privileged)) × (length (sets.required n (now table) (now transitions)) ≤ length (now required)) × (length (now network) / n ≤ length (now products)) ⌝ }
+    requires { ⌜ (length (now off) ≡ 16) × (length (now privileged) ≡ 64) × (length (sets.required n (now table) (now transitions)) ≤ length (now required)) × (length (now network) / n ≤ length (now products)) ⌝ }
+    requires { ⌜ (length (now legal) ≡ 60) × (length (now columns) ≡ 960) × (length (now rows) ≤ 32) × (length (now network) / n ≤ 64 * length (now rows)) ⌝ }
     ensures { λ r. ⌜ verdictOf r ≡ spec.fault n (now (table .entry)) (now (transitions .entry)) (spec.products n (now (network .entry))) ⌝ }
 {
     let s = sets_into(n, table, transitions, off, privileged, required);
     let p = s.privileged;
     let r = s.required;
     let m = read_network(n, network, products);
-    first_fault(n, off, &privileged[0..p], &required[0..r], &products[0..m])
+    columns_into(n, &privileged[0..p], legal);
+    blocks_into(Relation::Contains, n, &products[0..m], columns);
+    let b = (m + 63) / 64;
+    first_fault(
+        n,
+        off,
+        &privileged[0..p],
+        legal,
+        &required[0..r],
+        &products[0..m],
+        columns,
+        &mut rows[0..b],
+    )
 }
 
 // The same in room of its own, for at most 64 products.
@@ -41,8 +60,11 @@ fn judge_few(n: usize, table: &[u8], transitions: &[u16], network: &[u8]) -> Ver
 {
     let mut off = [0u64; 16];
     let mut privileged = [0u64; 64];
+    let mut legal = [0u64; 60];
     let mut required = [0u64; 2048];
     let mut products = [0u64; 64];
+    let mut columns = [0u64; 960];
+    let mut rows = [0u64; 1];
     judge_with(
         n,
         table,
@@ -50,8 +72,11 @@ fn judge_few(n: usize, table: &[u8], transitions: &[u16], network: &[u8]) -> Ver
         network,
         &mut off,
         &mut privileged,
+        &mut legal,
         &mut required,
         &mut products,
+        &mut columns,
+        &mut rows,
     )
 }
 
@@ -62,8 +87,11 @@ fn judge_many(n: usize, table: &[u8], transitions: &[u16], network: &[u8]) -> Ve
 {
     let mut off = [0u64; 16];
     let mut privileged = [0u64; 64];
+    let mut legal = [0u64; 60];
     let mut required = [0u64; 2048];
     let mut products = [0u64; 2048];
+    let mut columns = [0u64; 960];
+    let mut rows = [0u64; 32];
     judge_with(
         n,
         table,
@@ -71,8 +99,11 @@ fn judge_many(n: usize, table: &[u8], transitions: &[u16], network: &[u8]) -> Ve
         network,
         &mut off,
         &mut privileged,
+        &mut legal,
         &mut required,
         &mut products,
+        &mut columns,
+        &mut rows,
     )
 }
 

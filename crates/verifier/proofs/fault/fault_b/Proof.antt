@@ -1,4 +1,4 @@
-use mathlib.Core.Path.{_≡_, sym, ap, _∙_}
+use mathlib.Core.Path.{_≡_, refl, sym, ap, _∙_}
 use mathlib.Core.List.{List, map}
 use Prim.Native.Nat.{ℕ, _-_}
 use native.Mathlib.Omega.{arith}
@@ -15,13 +15,13 @@ use Rattle.verifier.proofs.fault.fault_b.Statement.{statement}
 use Rattle.verifier.proofs.fault.fault_b.Tie as tie
 
 abbrev Inv-loop : tie.InvT-loop
-Inv-loop n required products k₀ k = Left (λ l. faultB (map (requiredIn n) l) (networkIn n products)) required k
+Inv-loop n required products columns rows₀ k₀ rows k = (length rows ≡ length rows₀) × Left (λ l. faultB (map (requiredIn n) l) (networkIn n products)) required k
 
 abbrev μ-loop : tie.MeasureT-loop
-μ-loop n required products k₀ k = length required - k
+μ-loop n required products columns rows₀ k₀ rows k = length required - k
 
 loop-holds : tie.Need-loop-holds Inv-loop μ-loop
-loop-holds c = left-start
+loop-holds c = (refl, left-start)
 
 mul-w : tie.Need-mul-w Inv-loop μ-loop
 mul-w c = search needs
@@ -30,13 +30,19 @@ shared-slice-read-w : tie.Need-shared-slice-read-w Inv-loop μ-loop
 shared-slice-read-w c = search needs
 
 covers-requires : tie.Need-covers-requires Inv-loop μ-loop
-covers-requires c κs i = c .before .before .before .before .before .pre i .small
+covers-requires c κs =
+    let s = c .before .before .before .before .before .before .before .before in
+    let e = c .before .before .before .loop .inv .0 in
+    ((s .pre .0 .0, omega (arith, s .pre .0 .1, e), omega (arith, s .pre .0 .2, e)), s .pre .1)
+
+same-length : tie.Need-same-length Inv-loop μ-loop
+same-length c = search needs
 
 returns : tie.Need-returns Inv-loop μ-loop
 returns c =
-    let a = c .before .before .before .before .before .before .before .args in
-    find-hit (λ (r : Required). not (covered (networkIn (a .n) (a .products .now)) (r .cube))) (requiredIn (a .n)) (c .before .before .before .before .loop .inv) (omega arith)
-    (ap not (sym (c .before .covers .ensures)) ∙ c .if1 .taken)
+    let a = c .before .before .before .before .before .before .before .before .before .before .before .before .args in
+    find-hit (λ (r : Required). not (covered (networkIn (a .n) (a .products .now)) (r .cube))) (requiredIn (a .n)) (c .before .before .before .before .before .before .before .loop .inv .1) (omega arith)
+    (ap not (sym (c .before .before .before .covers .ensures)) ∙ c .if1 .taken)
 
 add-k : tie.Need-add-k Inv-loop μ-loop
 add-k c = search needs
@@ -46,12 +52,18 @@ loop-less c = search needs
 
 loop-again : tie.Need-loop-again Inv-loop μ-loop
 loop-again c =
-    let a = c .before .before .before .before .before .before .before .args in
-    find-miss (λ (r : Required). not (covered (networkIn (a .n) (a .products .now)) (r .cube))) (requiredIn (a .n)) (c .before .before .before .before .loop .inv) (omega arith)
-    (ap not (sym (c .before .covers .ensures)) ∙ c .if1 .left)
+    let a = c .before .before .before .before .before .before .before .before .before .before .before .before .args in
+    let l = c .before .before .before .before .before .before .before .loop in (
+      c .before .before .before .covers .kept .1 .1 .1 .0 ∙ l .inv .0,
+      find-miss (λ (r : Required). not (covered (networkIn (a .n) (a .products .now)) (r .cube))) (requiredIn (a .n)) (l .inv .1) (omega arith)
+          (ap not (sym (c .before .before .before .covers .ensures)) ∙ c .if1 .left),
+    )
+
+same-length-2 : tie.Need-same-length-2 Inv-loop μ-loop
+same-length-2 c = search needs
 
 returns-2 : tie.Need-returns-2 Inv-loop μ-loop
-returns-2 c = left-end (c .before .loop .inv) (omega arith)
+returns-2 c = left-end (c .before .loop .inv .1) (omega arith)
 
 pub fault-b-spec : {M : Type 1} → statement M
 fault-b-spec =
@@ -63,8 +75,10 @@ fault-b-spec =
     mul-w
     shared-slice-read-w
     covers-requires
+    same-length
     returns
     add-k
     loop-less
     loop-again
+    same-length-2
     returns-2)

@@ -20,10 +20,10 @@ use Rattle.verifier.proofs.fault.fault_c.Statement.{statement}
 use Rattle.verifier.proofs.fault.fault_c.Tie as tie
 
 abbrev Inv-loop : tie.InvT-loop
-Inv-loop n privileged products j₀ j = Places (λ k. Option·map (λ (v : Privileged). v .transition) (find (illegal (productAt (networkIn n products) k)) (map (privilegedIn n) privileged))) (length (networkIn n products)) j (faultC (map (privilegedIn n) privileged) (networkIn n products))
+Inv-loop n privileged legal products j₀ j = Places (λ k. Option·map (λ (v : Privileged). v .transition) (find (illegal (productAt (networkIn n products) k)) (map (privilegedIn n) privileged))) (length (networkIn n products)) j (faultC (map (privilegedIn n) privileged) (networkIn n products))
 
 abbrev μ-loop : tie.MeasureT-loop
-μ-loop n privileged products j₀ j = length products - j
+μ-loop n privileged legal products j₀ j = length products - j
 
 loop-holds : tie.Need-loop-holds Inv-loop μ-loop
 loop-holds c = places-start _ _
@@ -42,26 +42,26 @@ first-illegal-requires c κs = search needs
 
 -- What is looked at is the product.
 look-is : (c : tie.After-first-illegal Inv-loop μ-loop)
-    → let a = c .before .before .before .before .before .before .before .args in metOf (a .n) (c .first-illegal .result) ≡ find (illegal (productAt (networkIn (a .n) (a .products .now)) (c .before .before .before .before .loop .j))) (map (privilegedIn (a .n)) (a .privileged .now))
+    → let a = c .before .before .before .before .before .before .before .before .args in metOf (a .n) (c .first-illegal .result) ≡ find (illegal (productAt (networkIn (a .n) (a .products .now)) (c .before .before .before .before .loop .j))) (map (privilegedIn (a .n)) (a .privileged .now))
 look-is c =
-    let s = c .before .before .before .before .before .before .before in
+    let s = c .before .before .before .before .before .before .before .before in
     let j = c .before .before .before .before .loop .j in
     let d = stands-in {w = getD (s .args .products .now) j 0} (s .pre .1 j) (c .before .cube-in .ensures) in
-    c .first-illegal .ensures (s .args .n) (d .fits .small)
+    c .first-illegal .ensures
     ∙ ap (λ (e : List ℕ). find (illegal e) (map (privilegedIn (s .args .n)) (s .args .privileged .now))) (product-read (s .args .n) (s .args .products .now) j (omega arith) d)
 
 enum-known-w : tie.Need-enum-known-w Inv-loop μ-loop
 enum-known-w c = search needs
 
-cast-t12 : tie.Need-cast-t12 Inv-loop μ-loop
-cast-t12 c = omega (arith, c .before .before .before .before .before .before .before .before .before .before .pre .0)
+cast-t13 : tie.Need-cast-t13 Inv-loop μ-loop
+cast-t13 c = omega (arith, c .before .before .before .before .before .before .before .before .before .before .before .pre .0 .1)
 
 transition-in-requires : tie.Need-transition-in-requires Inv-loop μ-loop
 transition-in-requires c κs = search needs
 
 returns : tie.Need-returns Inv-loop μ-loop
 returns c =
-    let a = c .before .before .before .before .before .before .before .before .before .before .before .args in
+    let a = c .before .before .before .before .before .before .before .before .before .before .before .before .args in
     rw (c .transition-in .ensures) (places-hit (c .before .before .before .before .before .before .before .before .loop .inv) (omega (arith, length-map (a .products .now) (cubeIn (a .n))))
     (ap (Option·map (λ (v : Privileged). v .transition)) (sym (look-is (c .before .before .before .before)) ∙ ap (metOf (a .n)) (c .before .before .w .given .1))))
 
@@ -76,13 +76,13 @@ loop-less c = search needs
 
 loop-again : tie.Need-loop-again Inv-loop μ-loop
 loop-again c =
-    let a = c .before .before .before .before .before .before .before .before .before .args in
+    let a = c .before .before .before .before .before .before .before .before .before .before .args in
     places-miss (c .before .before .before .before .before .before .loop .inv) (omega (arith, length-map (a .products .now) (cubeIn (a .n))))
     (ap (Option·map (λ (v : Privileged). v .transition)) (sym (look-is (c .before .before)) ∙ ap (metOf (a .n)) (c .enum-told .given .1)))
 
 returns-2 : tie.Need-returns-2 Inv-loop μ-loop
 returns-2 c =
-    let a = c .before .before .before .before .args in
+    let a = c .before .before .before .before .before .args in
     places-end (c .before .loop .inv) (omega (arith, length-map (a .products .now) (cubeIn (a .n))))
 
 pub fault-c-spec : {M : Type 1} → statement M
@@ -97,7 +97,7 @@ fault-c-spec =
     cube-in-requires
     first-illegal-requires
     enum-known-w
-    cast-t12
+    cast-t13
     transition-in-requires
     returns
     enum-told

@@ -44,22 +44,28 @@ point-in-requires c κs = search needs
 enum-told-3 : tie.Need-enum-told-3
 enum-told-3 c = search needs
 
+same-length : tie.Need-same-length
+same-length c = search needs
+
 returns-3 : tie.Need-returns-3
 returns-3 c =
     rw (
       c .before .transition-in .ensures,
       c .point-in .ensures,
-      sym (c .before .before .before .before .before .before .before .before .before .before .before .fault-a .ensures) ∙ ap placeOf (c .before .before .before .before .before .before .before .before .before .enum-told .given .1),
-      sym (c .before .before .before .before .before .before .before .before .fault-c .ensures) ∙ ap placeOf (c .before .before .before .before .before .before .enum-told2 .given .1),
-      sym (c .before .before .before .before .before .fault-b .ensures) ∙ ap (unmetOf _) (c .before .before .before .w .given .1),
+      sym (c .before .before .before .before .before .before .before .before .before .before .before .before .before .before .fault-a .ensures) ∙ ap placeOf (c .before .before .before .before .before .before .before .before .before .before .before .before .enum-told .given .1),
+      sym (c .before .before .before .before .before .before .before .before .before .before .before .fault-c .ensures) ∙ ap placeOf (c .before .before .before .before .before .before .before .before .before .enum-told2 .given .1),
+      sym (c .before .before .before .before .before .before .before .fault-b .ensures) ∙ ap (unmetOf _) (c .before .before .before .w .given .1),
     )
+
+same-length-2 : tie.Need-same-length-2
+same-length-2 c = search needs
 
 returns-4 : tie.Need-returns-4
 returns-4 c =
     rw (
-      sym (c .before .before .before .before .before .before .before .before .fault-a .ensures) ∙ ap placeOf (c .before .before .before .before .before .before .enum-told .given .1),
-      sym (c .before .before .before .before .before .fault-c .ensures) ∙ ap placeOf (c .before .before .before .enum-told2 .given .1),
-      sym (c .before .before .fault-b .ensures) ∙ ap (unmetOf _) (c .enum-told3 .given .1),
+      sym (c .before .before .before .before .before .before .before .before .before .before .before .fault-a .ensures) ∙ ap placeOf (c .before .before .before .before .before .before .before .before .before .enum-told .given .1),
+      sym (c .before .before .before .before .before .before .before .before .fault-c .ensures) ∙ ap placeOf (c .before .before .before .before .before .before .enum-told2 .given .1),
+      sym (c .before .before .before .before .fault-b .ensures) ∙ ap (unmetOf _) (c .enum-told3 .given .1),
     )
 
 pub first-fault-spec : {M : Type 1} → statement M
@@ -79,5 +85,7 @@ first-fault-spec =
     transition-in-requires
     point-in-requires
     enum-told-3
+    same-length
     returns-3
+    same-length-2
     returns-4)
