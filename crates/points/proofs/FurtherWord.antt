@@ -1,28 +1,25 @@
 -- Moves of one input, bit by bit.
 use mathlib.Core.Path.{_≡_, refl, sym, ap, ap₂, _∙_, subst, subst⁻¹}
 use mathlib.Core.Logic.{_≢_}
-use mathlib.Core.Bool.{Bool, true, false, not, cond, _&&_, _||_}
+use mathlib.Core.Bool.{Bool, true, false, not, cond, _&&_}
 use mathlib.Core.List.{List}
-use mathlib.Core.Option.{none, some}
 use Prim.Native.Nat.{ℕ, zero, suc, _+_, _-_, _*_, _/_, _%_, _^_, _<_}
-use native.Mathlib.Nat.{mod-lt, mod-eq-of-lt, one-mul, add-zero, zero-add, add-comm, lt-of-le-of-lt}
-use native.Mathlib.Numerals.{add-one}
+use native.Mathlib.Nat.{mod-lt, mod-eq-of-lt, one-mul, add-zero, add-comm, lt-of-le-of-lt}
 use native.Mathlib.Omega.{arith}
 use native.Mathlib.Decide.{ℕ-discrete}
 use lib.Dec.{T, eqb, ltb, eqb→eq, ltb→lt}
-use lib.Bits.{bitAnd, bitOr, and-le-r, or-shr, or-lt}
+use lib.Bits.{bitAnd, and-le-r}
 use lib.ListN.{getD}
 use lib.Pow.{pow-pos, pow-add, pow-lt, shr-shr}
 use borrow.Author.Tests.{eq-eqb, ne-eqb, eqb-true}
-use Rattle.hazard.specs.Search.{found, first}
+use Rattle.hazard.specs.Search.{first}
 use Rattle.hazard.specs.Cube.{bit, flip}
 use Rattle.hazard.proofs.Test.{T-and}
 use Rattle.hazard.proofs.Point.{flip-up, flip-down, flip-lt}
 use Rattle.cube.specs.PointSet.{inSet}
-use Rattle.cube.proofs.Bits.{bit-case2, or-last}
 use Rattle.cube.proofs.WordMask.{high-bit, low-bit, mod-bit, no-bit, and-test}
 use Rattle.points.specs.PointWord.{WordOf}
-use Rattle.points.specs.Further.{Side, Within, movesFrom, movesInto, furtherIn}
+use Rattle.points.specs.Further.{Side, Within, movesFrom}
 use Rattle.points.proofs.PlaneWord.{one-is}
 
 -- All the numbers below size pass a test.
@@ -158,43 +155,3 @@ module _ (set : List ℕ) (w v : ℕ) where
       go x q =
           ap₂ (λ (u k : ℕ). eqb (bit (getD set u 0) k) 1) (ap (λ (y : ℕ). flip y j) (sym q) ∙ sym (flip-out-word x j)) (sym (flip-out-bit x j))
           ∙ sym (ap (λ (b : Bool). b && inSet set (flip x (j + 6))) (eq-eqb (bit x (j + 6)) v (bit-out x j ∙ ap (λ (y : ℕ). bit y j) q ∙ e)))
-
--- The same on the way from a to b.
-module _ (set : ℕ → Bool) (a b w i : ℕ) where
-  pub moving-none : bit a i ≡ bit b i → WordOf (movesInto set a b i) w 0
-  moving-none e = record { small = omega arith; bits = λ x q. ap (λ (y : ℕ). eqb y 1) (no-bit 0 (x % 64) refl) ∙ sym (ap (λ (t : Bool). (not t && eqb (bit x i) (bit a i)) && set (flip x i)) (eq-eqb (bit a i) (bit b i) e)) }
-
-  pub moving-here : bit a i ≢ bit b i → {r : ℕ} → WordOf (movesFrom set (bit a i) i) w r → WordOf (movesInto set a b i) w r
-  moving-here ne s = record { small = s .small; bits = λ x q. s .bits x q ∙ sym (ap (λ (t : Bool). (not t && eqb (bit x i) (bit a i)) && set (flip x i)) (ne-eqb (bit a i) (bit b i) ne)) }
-
--- A loop over the inputs: the moves of those below i.
-found-more : (test : ℕ → Bool) (from m : ℕ) → found (first test from (suc m)) ≡ (found (first test from m) || test (from + m))
-found-more test from zero = rw add-zero (go (test from))
-  where
-    go : (b : Bool) → found {A = ℕ} (elim b [ true ↦ some from | false ↦ none ]) ≡ b
-    go true = refl
-    go false = refl
-found-more test from (suc m) = go (test from) (found-more test (suc from) m ∙ ap (λ (k : ℕ). found (first test (suc from) m) || test k) (omega arith))
-  where
-    go : (b : Bool) → found (first test (suc from) (suc m)) ≡ (found (first test (suc from) m) || test (from + suc m))
-        → found {A = ℕ} (elim b [ true ↦ some from | false ↦ first test (suc from) (suc m) ]) ≡ (found {A = ℕ} (elim b [ true ↦ some from | false ↦ first test (suc from) m ]) || test (from + suc m))
-    go true h = refl
-    go false h = h
-
-or-bits : (a b i : ℕ) → bit (bitOr a b) i ≡ bitOr (bit a i) (bit b i)
-or-bits a b i = ap (λ (y : ℕ). y % 2) (or-shr a b i) ∙ or-last (a / 2 ^ i) (b / 2 ^ i)
-
-either-bit : (a b : ℕ) → eqb (bitOr (a % 2) (b % 2)) 1 ≡ (eqb (a % 2) 1 || eqb (b % 2) 1)
-either-bit = bit-case2 (λ a b. eqb (bitOr a b) 1 ≡ (eqb a 1 || eqb b 1)) refl refl refl refl
-
-module _ (set : ℕ → Bool) (a b w : ℕ) where
-  pub further-start : WordOf (furtherIn 0 set a b) w 0
-  further-start = record { small = omega arith; bits = λ x q. ap (λ (y : ℕ). eqb y 1) (no-bit 0 (x % 64) refl) }
-
-  pub further-more : (i : ℕ) {r s : ℕ} → WordOf (furtherIn i set a b) w r → WordOf (movesInto set a b i) w s → WordOf (furtherIn (i + 1) set a b) w (bitOr r s)
-  further-more i {r} {s} p q = record { small = or-lt 64 r s (p .small) (q .small); bits = λ x e. go x e }
-    where
-      go : (x : ℕ) → x / 64 ≡ w → eqb (bit (bitOr r s) (x % 64)) 1 ≡ furtherIn (i + 1) set a b x
-      go x e =
-          ap (λ (y : ℕ). eqb y 1) (or-bits r s (x % 64)) ∙ either-bit (r / 2 ^ (x % 64)) (s / 2 ^ (x % 64)) ∙ ap₂ _||_ (p .bits x e) (q .bits x e)
-          ∙ sym (ap (λ (k : ℕ). furtherIn k set a b x) (add-one i) ∙ found-more (λ j. movesInto set a b j x) 0 i ∙ ap (λ (k : ℕ). furtherIn i set a b x || movesInto set a b k x) (zero-add i))

@@ -4,3 +4,4 @@ pub mod TurnWord
 pub mod Walk
 pub mod Agree
 pub mod Members
+pub mod Movement

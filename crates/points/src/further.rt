@@ -1,11 +1,12 @@
 // The points from which one move further, on the way from a to b, leads into a set. Inputs 0 to 5 move a point within its word, the
 // inputs from 6 on into another word.
 ghost use mathlib.Core.Path.{_≡_};
-ghost use Prim.Native.Nat.{_+_, _≤_, _<_};
+ghost use Prim.Native.Nat.{_+_, _^_, _≤_, _<_};
 ghost use lib.ListN.{length};
+ghost use Rattle.hazard.specs.Cube.{bit};
 ghost use Rattle.cube.specs.PointSet.{inSet};
 ghost use Rattle.points.specs.PointWord.{WordOf};
-ghost use Rattle.points.specs.Further.{Side, Within, movesFrom, movesInto, furtherIn};
+ghost use Rattle.points.specs.Further.{Side, Within, movesFrom, furtherIn};
 use cube::point::bit_of;
 use cube::point::flipped;
 
@@ -58,31 +59,29 @@ fn across(set: &[u64], w: usize, j: usize, from: u16) -> u64
     set[flipped(u, j) as usize]
 }
 
-// The points of word w at which input i may still move, into the set.
-fn moving(set: &[u64], a: u16, b: u16, w: usize, i: usize) -> u64
+// The points of word w that a move of input i, from its value at a, takes into the set.
+fn moving(set: &[u64], a: u16, w: usize, i: usize) -> u64
     requires { ⌜ (length (now set) ≡ 16) × (w < 16) × (i < 10) ⌝ }
-    ensures { λ r. ⌜ WordOf (movesInto (inSet (now (set .entry))) a b i) w r ⌝ }
+    ensures { λ r. ⌜ WordOf (movesFrom (inSet (now (set .entry))) (bit a i) i) w r ⌝ }
 {
     let from = bit_of(a, i);
-    if from == bit_of(b, i) {
-        return 0;
-    }
     if i < 6 {
         return within(set[w], i, from);
     }
     across(set, w, i - 6, from)
 }
 
-// The points of word w from which some move further leads into the set.
+// The points of word w from which some move further leads into the set. The inputs that move are the bits of `left`, one a turn.
 pub fn further_word(n: usize, set: &[u64], a: u16, b: u16, w: usize) -> u64
-    requires { ⌜ (n ≤ 10) × (length (now set) ≡ 16) × (w < 16) ⌝ }
+    requires { ⌜ (n ≤ 10) × (length (now set) ≡ 16) × (a < 2 ^ n) × (b < 2 ^ n) × (w < 16) ⌝ }
     ensures { λ r. ⌜ WordOf (furtherIn n (inSet (now (set .entry))) a b) w r ⌝ }
 {
     let mut word = 0;
-    let mut i = 0;
-    while i < n {
-        word = word | moving(set, a, b, w, i);
-        i += 1;
+    let mut left = a ^ b;
+    while left != 0 {
+        let i = u16::trailing_zeros(left) as usize;
+        word = word | moving(set, a, w, i);
+        left = left ^ (1u16 << i);
     }
     word
 }

@@ -1,7 +1,7 @@
 // The points of a set under a mask from which a move further, on the way from one point to another, leads into a set, or does not. Where the
 // set has no points under the mask the moves are not looked at.
 ghost use mathlib.Core.Path.{_≡_};
-ghost use Prim.Native.Nat.{_≤_, _<_};
+ghost use Prim.Native.Nat.{_^_, _≤_, _<_};
 ghost use lib.ListN.{length};
 ghost use Rattle.cube.specs.PointSet.{inSet};
 ghost use Rattle.points.specs.PointWord.{WordOf};
@@ -18,7 +18,7 @@ pub fn set_points(set: &[u64], w: usize, m: u64) -> u64
 
 // The points of word w that are in the set `from`, under the mask, and from which some move leads into the set `to`.
 pub fn turning_points(n: usize, from: &[u64], to: &[u64], a: u16, b: u16, w: usize, m: u64) -> u64
-    requires { ⌜ (n ≤ 10) × (length (now from) ≡ 16) × (length (now to) ≡ 16) × (w < 16) ⌝ }
+    requires { ⌜ (n ≤ 10) × (length (now from) ≡ 16) × (length (now to) ≡ 16) × (a < 2 ^ n) × (b < 2 ^ n) × (w < 16) ⌝ }
     ensures { λ r. ⌜ WordOf (masked m (turns n (inSet (now (from .entry))) (inSet (now (to .entry))) a b)) w r ⌝ }
 {
     let common = set_points(from, w, m);
@@ -30,7 +30,7 @@ pub fn turning_points(n: usize, from: &[u64], to: &[u64], a: u16, b: u16, w: usi
 
 // The points of word w that are in the set, under the mask, and from which no move leads into the set.
 pub fn last_points(n: usize, set: &[u64], s: u16, e: u16, w: usize, m: u64) -> u64
-    requires { ⌜ (n ≤ 10) × (length (now set) ≡ 16) × (w < 16) ⌝ }
+    requires { ⌜ (n ≤ 10) × (length (now set) ≡ 16) × (s < 2 ^ n) × (e < 2 ^ n) × (w < 16) ⌝ }
     ensures { λ r. ⌜ WordOf (masked m (lasts n (inSet (now (set .entry))) s e)) w r ⌝ }
 {
     let common = set_points(set, w, m);

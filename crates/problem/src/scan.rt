@@ -36,7 +36,7 @@ fn broken_points(
     w: usize,
     m: u64,
 ) -> u64
-    requires { ⌜ (n ≤ 10) × (length (now zeros) ≡ 16) × (length (now ones) ≡ 16) × (w < 16) ⌝ }
+    requires { ⌜ (n ≤ 10) × (length (now zeros) ≡ 16) × (length (now ones) ≡ 16) × (a < 2 ^ n) × (b < 2 ^ n) × (w < 16) ⌝ }
     ensures { λ r. ⌜ WordOf (masked m (breaksIn n (inSet (now (zeros .entry))) (inSet (now (ones .entry))) (kindIs k) a b)) w r ⌝ }
 {
     match k {

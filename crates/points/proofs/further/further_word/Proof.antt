@@ -1,46 +1,54 @@
-use mathlib.Core.Path.{_≡_, subst}
-use Prim.Native.Nat.{ℕ, _-_, _≤_}
 use native.Mathlib.Omega.{arith}
+use lib.Count.{trailing-le}
 use Rattle.cube.specs.PointSet.{inSet}
-use Rattle.points.specs.PointWord.{WordOf}
-use Rattle.points.specs.Further.{furtherIn}
-use Rattle.points.proofs.FurtherWord.{further-start, further-more}
+use Rattle.points.proofs.Movement.{Moving, moving-start, moving-input, moving-less, moving-more, moving-end}
 use borrow.Author.Needs.{needs}
 use Rattle.points.proofs.further.further_word.Statement.{statement}
 use Rattle.points.proofs.further.further_word.Tie as tie
 
 abbrev Inv-loop : tie.InvT-loop
-Inv-loop n set a b w word₀ i₀ word i = (i ≤ n) × WordOf (furtherIn i (inSet set) a b) w word
+Inv-loop n set a b w word₀ left₀ word left = Moving n (inSet set) a b w left word
 
 abbrev μ-loop : tie.MeasureT-loop
-μ-loop n set a b w word₀ i₀ word i = n - i
+μ-loop n set a b w word₀ left₀ word left = left
 
 loop-holds : tie.Need-loop-holds Inv-loop μ-loop
-loop-holds c = let a = c .before .args in (omega arith, further-start (inSet (a .set .now)) (a .a) (a .b) (a .w))
+loop-holds c = let s = c .before in let a = s .args in moving-start (a .n) (inSet (a .set .now)) (a .a) (a .b) (a .w) (s .pre .2) (s .pre .3)
+
+cast-i : tie.Need-cast-i Inv-loop μ-loop
+cast-i c = omega (arith, trailing-le 16 (c .before .loop .left))
 
 moving-requires : tie.Need-moving-requires Inv-loop μ-loop
-moving-requires c κs = search needs
+moving-requires c κs =
+    let p = c .before .before .before .pre in
+    (p .1, p .4, omega (arith, p .0, moving-input (c .before .loop .inv) (p .0) (c .loop-test .taken)))
 
-add-i : tie.Need-add-i Inv-loop μ-loop
-add-i c = search needs
+cast-left : tie.Need-cast-left Inv-loop μ-loop
+cast-left c = omega (arith, trailing-le 16 (c .before .before .loop .left))
+
+shl-left : tie.Need-shl-left Inv-loop μ-loop
+shl-left c = omega (arith, c .before .before .before .before .pre .0, moving-input (c .before .before .loop .inv) (c .before .before .before .before .pre .0) (c .before .loop-test .taken))
 
 loop-less : tie.Need-loop-less Inv-loop μ-loop
-loop-less c = search needs
+loop-less c = moving-less (c .before .before .loop .inv) (c .before .before .before .before .pre .0) (c .before .loop-test .taken)
 
 loop-again : tie.Need-loop-again Inv-loop μ-loop
-loop-again c =
-    let a = c .before .before .before .before .args in
-    let l = c .before .before .loop in
-    (omega arith, further-more (inSet (a .set .now)) (a .a) (a .b) (a .w) (l .i) (l .inv .1) (c .moving .ensures))
+loop-again c = moving-more (c .before .before .loop .inv) (c .before .before .before .before .pre .0) (c .before .loop-test .taken) (c .moving .ensures)
 
 returns : tie.Need-returns Inv-loop μ-loop
-returns c =
-    let a = c .before .before .before .args in
-    let l = c .before .loop in
-    let e : l .i ≡ a .n = omega (arith, l .inv .0) in
-    subst (λ (k : ℕ). WordOf (furtherIn k (inSet (a .set .now)) (a .a) (a .b)) (a .w) (l .word)) e (l .inv .1)
+returns c = moving-end (c .before .loop .inv) (c .loop-test .left)
 
 pub further-word-spec : {M : Type 1} → statement M
 further-word-spec =
     tie.close
-    (tie.spec Inv-loop μ-loop loop-holds moving-requires add-i loop-less loop-again returns)
+    (tie.spec
+    Inv-loop
+    μ-loop
+    loop-holds
+    cast-i
+    moving-requires
+    cast-left
+    shl-left
+    loop-less
+    loop-again
+    returns)

@@ -53,7 +53,7 @@ loop-holds c =
 last-points-requires : tie.Need-last-points-requires Inv-loop μ-loop
 last-points-requires c κs =
     let s = c .before .before .before .before .before .before .before .before in
-    (s .pre .0 .0, s .pre .1 .long, omega (arith, c .before .loop .inv .0, c .before .loop .inv .1))
+    (s .pre .0 .0, s .pre .1 .long, s .pre .0 .2, s .pre .0 .3, omega (arith, c .before .loop .inv .0, c .before .loop .inv .1))
 
 cast-k : tie.Need-cast-k Inv-loop μ-loop
 cast-k c = omega (arith, ones-le 64 (c .last-points .result) (c .last-points .ensures .small))

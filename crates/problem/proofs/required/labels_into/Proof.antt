@@ -57,7 +57,7 @@ loop-holds c =
 last-points-requires : tie.Need-last-points-requires Inv-loop μ-loop
 last-points-requires c κs =
     let s = c .before .before .before .before .before .before .before .before .before in
-    (s .pre .0 .0, s .pre .0 .4 .long, omega (arith, c .before .loop .inv .0, c .before .loop .inv .1))
+    (s .pre .0 .0, s .pre .0 .4 .long, s .pre .0 .2, s .pre .0 .3, omega (arith, c .before .loop .inv .0, c .before .loop .inv .1))
 
 word-into-requires : tie.Need-word-into-requires Inv-loop μ-loop
 word-into-requires c κs =

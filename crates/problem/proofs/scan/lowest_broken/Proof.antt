@@ -49,7 +49,7 @@ loop-holds c =
 broken-points-requires : tie.Need-broken-points-requires Inv-loop μ-loop
 broken-points-requires c κs =
     let s = c .before .before .before .before .before .before .before .before in
-    (s .pre .0, s .pre .3 .long, s .pre .4 .long, omega (arith, c .before .loop .inv .0, c .before .loop .inv .1))
+    (s .pre .0, s .pre .3 .long, s .pre .4 .long, s .pre .1, s .pre .2, omega (arith, c .before .loop .inv .0, c .before .loop .inv .1))
 
 mul-t16 : tie.Need-mul-t16 Inv-loop μ-loop
 mul-t16 c = search needs
