@@ -36,9 +36,9 @@ narrowing-step {columns} {c} {old} {new} {i} s {at} e {next} l h =
     record {
       long = l ∙ s .long;
       is = λ k a.
-        ap (λ (w : ℕ). eqb (bit w (k % 64)) 1) (h (k / 64) (omega (arith, s .long)) ∙ ap (λ (y : ℕ). bitAnd (getD new (k / 64) 0) (getD columns (y + k / 64) 0)) e)
-        ∙ and-test (getD new (k / 64) 0) (getD columns (32 * (3 * i + digitAt c i) + k / 64) 0) (k % 64)
-        ∙ ap (λ (b : Bool). b && allowed columns k i (digitAt c i)) (s .is k a)
-        ∙ and-swap (inSet old k) (allowedTo columns k c i) (allowed columns k i (digitAt c i))
-        ∙ ap (λ (j : ℕ). inSet old k && allowedTo columns k c j) (sym (add-one i));
+          ap (λ (w : ℕ). eqb (bit w (k % 64)) 1) (h (k / 64) (omega (arith, s .long)) ∙ ap (λ (y : ℕ). bitAnd (getD new (k / 64) 0) (getD columns (y + k / 64) 0)) e)
+          ∙ and-test (getD new (k / 64) 0) (getD columns (32 * (3 * i + digitAt c i) + k / 64) 0) (k % 64)
+          ∙ ap (λ (b : Bool). b && allowed columns k i (digitAt c i)) (s .is k a)
+          ∙ and-swap (inSet old k) (allowedTo columns k c i) (allowed columns k i (digitAt c i))
+          ∙ ap (λ (j : ℕ). inSet old k && allowedTo columns k c j) (sym (add-one i));
     }

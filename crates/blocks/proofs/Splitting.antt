@@ -36,10 +36,10 @@ module _ (test : ℕ → Bool) (before copy taken after : List ℕ) (same : leng
         long = long ∙ same;
         took = took;
         left = λ k a.
-          ap (λ (w : ℕ). eqb (bit w (k % 64)) 1) (r (k / 64) (omega (arith, same, long)))
-          ∙ without-bit (getD before (k / 64) 0) (getD taken (k / 64) 0) (k % 64)
-          ∙ ap (λ (b : Bool). inSet before k && not b) (took k a)
-          ∙ without-both (inSet before k) (test k);
+            ap (λ (w : ℕ). eqb (bit w (k % 64)) 1) (r (k / 64) (omega (arith, same, long)))
+            ∙ without-bit (getD before (k / 64) 0) (getD taken (k / 64) 0) (k % 64)
+            ∙ ap (λ (b : Bool). inSet before k && not b) (took k a)
+            ∙ without-both (inSet before k) (test k);
       }
     where
       took : (k : ℕ) → k < 64 * length before → inSet taken k ≡ (inSet before k && test k)

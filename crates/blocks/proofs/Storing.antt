@@ -55,8 +55,8 @@ pub block-step : {rel : Relation} {rows : List ℕ} {b i : ℕ} {before columns 
 block-step {rel} {rows} {b} {i} {before} {columns} s m j e w a =
     record {
       long = stored-length columns i b w ∙ s .long;
-      is = λ x d k x<i d<3 k< . elim (ℕ-discrete x i) [ yes q ↦ here x d k q d<3 k< | no q ↦ earlier x d k (omega (arith, q)) d<3 k< ];
-      others = λ x d y y<32 ne . stored-other columns i b w (32 * (3 * x + d) + y) (λ q. apart x d y 0 (omega (arith, q)) ne y<32) (λ q. apart x d y 1 (omega (arith, q)) ne y<32) (λ q. apart x d y 2 (omega (arith, q)) ne y<32) ∙ s .others x d y y<32 ne;
+      is = λ x d k x<i d<3 k<. elim (ℕ-discrete x i) [ yes q ↦ here x d k q d<3 k< | no q ↦ earlier x d k (omega (arith, q)) d<3 k< ];
+      others = λ x d y y<32 ne. stored-other columns i b w (32 * (3 * x + d) + y) (λ q. apart x d y 0 (omega (arith, q)) ne y<32) (λ q. apart x d y 1 (omega (arith, q)) ne y<32) (λ q. apart x d y 2 (omega (arith, q)) ne y<32) ∙ s .others x d y y<32 ne;
     }
   where
     room : 96 * i + 64 + b < length columns
@@ -92,7 +92,7 @@ module _ {rel : Relation} {n : ℕ} {rows columns : List ℕ} {b : ℕ} (s : Fil
   filled-step l m {to} e next f =
       record {
         long = f .long ∙ s .long;
-        is = λ i d k i<n d<3 k< below . elim (ℕ-discrete (k / 64) b) [ yes q ↦ here i d k i<n d<3 k< q | no q ↦ earlier i d k i<n d<3 k< (omega (arith, q, below)) ];
+        is = λ i d k i<n d<3 k< below. elim (ℕ-discrete (k / 64) b) [ yes q ↦ here i d k i<n d<3 k< q | no q ↦ earlier i d k i<n d<3 k< (omega (arith, q, below)) ];
       }
     where
       size : length (take (to - 64 * b) (drop (64 * b) rows)) ≡ to - 64 * b

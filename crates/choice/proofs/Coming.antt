@@ -63,9 +63,9 @@ module _ (n : ℕ) (columns : List ℕ) (c : masks.Cube) (before after left rest
   came =
       record {
         notes = λ required t e i l.
-          noted i (omega (arith, l, e, size))
-          ∙ note-bit (ltb i (length before)) (eqb (getD before i 0) 65535) (test i) (getD before i 0) j (is {b = ltb i (length before)} (lt→ltb i (length before) (omega (arith, l, e)))) refl
-          ∙ ap (λ (b : Bool). noteOf (getD before i 0) b j) (t .is i l c);
+            noted i (omega (arith, l, e, size))
+            ∙ note-bit (ltb i (length before)) (eqb (getD before i 0) 65535) (test i) (getD before i 0) j (is {b = ltb i (length before)} (lt→ltb i (length before) (omega (arith, l, e)))) refl
+            ∙ ap (λ (b : Bool). noteOf (getD before i 0) b j) (t .is i l c);
         unnoted = λ i. go i (decLt i (64 * length left));
       }
     where

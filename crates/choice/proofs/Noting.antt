@@ -47,8 +47,8 @@ module _ {b word j : ℕ} {old new : List ℕ} {left : ℕ} (s : Noting b word j
   -- The lowest row is noted, and leaves.
   gone : inWord b (flip left (trailingZeros 64 left)) lowest ≡ false
   gone = isnt (inWord b (flip left (trailingZeros 64 left)) lowest) (λ t.
-    let e = eqb→eq (bit (flip left (trailingZeros 64 left)) (lowest % 64)) 1 (T-and (eqb (lowest / 64) b) (eqb (bit (flip left (trailingZeros 64 left)) (lowest % 64)) 1) .0 t .1) in
-    omega (arith, e, ap (bit (flip left (trailingZeros 64 left))) (place .1), flip-same left (trailingZeros 64 left), lowest-set left (s .small) ne))
+      let e = eqb→eq (bit (flip left (trailingZeros 64 left)) (lowest % 64)) 1 (T-and (eqb (lowest / 64) b) (eqb (bit (flip left (trailingZeros 64 left)) (lowest % 64)) 1) .0 t .1) in
+      omega (arith, e, ap (bit (flip left (trailingZeros 64 left))) (place .1), flip-same left (trailingZeros 64 left), lowest-set left (s .small) ne))
 
   others : (i : ℕ) → i ≢ lowest → inWord b (flip left (trailingZeros 64 left)) i ≡ inWord b left i
   others i n = elim (ℕ-discrete (i / 64) b) [

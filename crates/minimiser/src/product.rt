@@ -11,8 +11,8 @@ ghost use Rattle.cube.specs.PointSet.{inSet};
 ghost use Rattle.expand.specs.Ready.{Ready};
 ghost use Rattle.expand.specs.Columns.{Columns};
 ghost use Rattle.minimiser.specs.Product.{Over, PrimeOver, MadeFor};
-use blocks::member::without_lowest;
 use crate::near::near;
+use blocks::member::without_lowest;
 use cube::entry::cube_in;
 use cube::mask::Cube;
 use cube::mask::lies_inside;
@@ -104,7 +104,15 @@ pub fn product_for(
     let grown = grow(n, off, privileged, legal, cube);
     match grown {
         Grown::Legal(c, _) => Made::Product(widened(
-            n, off, privileged, legal, required, columns, left, i, c,
+            n,
+            off,
+            privileged,
+            legal,
+            required,
+            columns,
+            left,
+            i,
+            c,
         )),
         Grown::Blocked(z, s) => Made::Blocked(refusal_of(w, z, s)),
     }

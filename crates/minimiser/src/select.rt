@@ -35,7 +35,16 @@ pub fn select(
     ensures { λ r. ⌜ Answered n (inSet (now (off .entry))) (map (privilegedIn n) (now (privileged .entry))) (map (requiredIn n) (now (required .entry))) (now (cover .entry)) (now (cover .exit)) (minimisedOf r) ⌝ }
 {
     let chosen = choose(
-        n, off, privileged, legal, required, columns, left, taken, firsts, products,
+        n,
+        off,
+        privileged,
+        legal,
+        required,
+        columns,
+        left,
+        taken,
+        firsts,
+        products,
     );
     let Minimised::Products(m) = chosen else {
         return chosen;

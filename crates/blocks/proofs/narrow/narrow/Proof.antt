@@ -22,7 +22,6 @@ mul-at c = search needs
 digit-at-requires : tie.Need-digit-at-requires Inv-loop μ-loop
 digit-at-requires c κs = search needs
 
-
 add-at : tie.Need-add-at Inv-loop μ-loop
 add-at c = search needs
 

@@ -77,10 +77,9 @@ loop-again c =
     let k = c .before .before .before .before .before .before .before .cube-in in
     let z = c .before .before .before .before .split in
     let w = getD (l .products) (l .j - 1) 0 in
-    let e : cubeOf (s .args .n) (k .result) ≡ cubeIn (s .args .n) w = rw (k .ensures .0, k .ensures .1) in
-    (
+    let e : cubeOf (s .args .n) (k .result) ≡ cubeIn (s .args .n) w = rw (k .ensures .0, k .ensures .1) in (
       keeping-keep (s .pre .0 .1) (keeping-turn (s .pre .0 .1) (l .inv .0) (c .before .before .before .before .before .before .before .before .before .before .before .before .before .loop-test .taken)) (sym (c .before .before .before .before .before .before .before .before .before .needed .ensures) ∙ c .before .before .before .before .before .before .before .before .if1 .taken) (z .last .1 .1 .1 .0)
-      (split-off (s .pre .0 .2) (k .result) w e (l .unmet) (z .last .1 .1 .1 .0) (z .last .1 .1 .1 .1 .0) (z .ensures) (l .inv .0 .wide)) (z .kept .1 .1 .1 .0),
+          (split-off (s .pre .0 .2) (k .result) w e (l .unmet) (z .last .1 .1 .1 .0) (z .last .1 .1 .1 .1 .0) (z .ensures) (l .inv .0 .wide)) (z .kept .1 .1 .1 .0),
       z .kept .1 .1 .1 .0 ∙ l .inv .1,
       z .kept .1 .1 .1 .1 .0 ∙ l .inv .2,
     )

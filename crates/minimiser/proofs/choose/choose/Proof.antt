@@ -32,8 +32,7 @@ whole-into-requires c κs = search needs
 loop-holds : tie.Need-loop-holds Inv-loop μ-loop
 loop-holds c =
     let s = c .before .before .before .before .before .before .before .before .before .before .before .before .before in
-    let w = c .before .before .whole-into in
-    (
+    let w = c .before .before .whole-into in (
       turn-start (s .args .n) (s .args .off .now) (s .args .privileged .now) (choosing-start _ _ _ _ _ (s .pre .0 .2) (s .pre .0 .3) (s .pre .0 .4) (s .pre .1 .1 .1)),
       refl,
       unnoted-start (s .args .firsts .now) (w .last .1 .0) (length (s .args .required .now)) (s .pre .0 .3) (omega (arith, s .pre .0 .3, s .pre .1 .0 .2, w .kept .1 .0)) (s .pre .1 .1 .1) (λ k l. w .ensures k (omega (arith, l, w .kept .1 .0))),
@@ -100,10 +99,9 @@ note-product-requires : tie.Need-note-product-requires Inv-loop μ-loop
 note-product-requires c κs =
     let s = c .before .before .before .before .before .before .before .before .before .before .before .before .before .before .before .before .before .before .before .before .before .before .before .before .before .before in
     let l = c .before .before .before .before .before .before .before .before .before .before .before .before .loop in
-    let w = c .before .before .before .before .before .before .before .before .before .before .before .before .before .before .before .whole-into in
-    (
+    let w = c .before .before .before .before .before .before .before .before .before .before .before .before .before .before .before .whole-into in (
       (s .pre .0 .0 .few, s .pre .1 .0 .0 .long, omega (arith, l .inv .3, w .kept .1 .0, s .pre .1 .0 .1), l .inv .4 ∙ s .pre .1 .0 .3 ∙ sym (w .kept .1 .0) ∙ sym (l .inv .3), omega (arith, l .inv .0 .choosing .few, l .inv .0 .choosing .many, c .before .before .before .before .before .before .before .before .before .before .before .loop-test .taken)),
-      (omega (arith, l .inv .0 .choosing .whole, s .pre .1 .0 .2, l .inv .3, w .kept .1 .0), l .inv .2)
+      (omega (arith, l .inv .0 .choosing .whole, s .pre .1 .0 .2, l .inv .3, w .kept .1 .0), l .inv .2),
     )
 
 add-m : tie.Need-add-m Inv-loop μ-loop
