@@ -10,7 +10,7 @@ use crate::narrow::narrow;
 use cube::mask::Cube;
 
 // A copy of the words.
-pub fn copy_into(from: &[u64], to: &mut [u64])
+fn copy_into(from: &[u64], to: &mut [u64])
     requires { ⌜ length (now to) ≡ length (now from) ⌝ }
     ensures { λ _. ⌜ ((b : ℕ) → b < length (now (from .entry)) → getD (now (to .exit)) b 0 ≡ getD (now (from .entry)) b 0) ⌝ }
 {
