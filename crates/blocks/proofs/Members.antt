@@ -1,12 +1,10 @@
 -- The lowest member of a word's set.
-use mathlib.Core.Path.{_≡_, sym, ap, _∙_}
+use mathlib.Core.Path.{_≡_, ap, _∙_}
 use mathlib.Core.Logic.{_≢_}
-use mathlib.Core.Bool.{cond}
-use Prim.Native.Nat.{ℕ, _+_, _-_, _*_, _/_, _%_, _^_, _≤_, _<_}
-use native.Mathlib.Nat.{one-mul, mod-eq-of-lt, le-trans, lt-of-lt-of-le, zero-div, div-eq-of-lt}
+use Prim.Native.Nat.{ℕ, _-_, _*_, _/_, _%_, _^_, _≤_, _<_}
+use native.Mathlib.Nat.{one-mul, mod-eq-of-lt, div-eq-of-lt}
 use native.Mathlib.Decide.{decLt}
 use native.Mathlib.Omega.{arith}
-use lib.Dec.{eqb}
 use lib.Count.{trailingZeros}
 use lib.Pow.{pow-pos, pow-mono}
 use Rattle.hazard.specs.Cube.{bit, flip}

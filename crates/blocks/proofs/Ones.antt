@@ -1,12 +1,12 @@
 -- The bits of a number of ones, and the words of a whole set.
-use mathlib.Core.Path.{_≡_, refl, sym, ap, _∙_}
-use mathlib.Core.Bool.{Bool, true, false}
+use mathlib.Core.Path.{_≡_, refl, ap, _∙_}
+use mathlib.Core.Bool.{true, false}
 use mathlib.Core.List.{List}
 use Prim.Native.Nat.{ℕ, zero, suc, _+_, _-_, _*_, _/_, _%_, _^_, _≤_, _<_}
 use native.Mathlib.Nat.{pow-suc, one-mul, mod-eq-of-lt}
 use native.Mathlib.Omega.{arith}
 use native.Mathlib.Decide.{ℕ-discrete}
-use lib.Dec.{T, eqb, ltb, lt→ltb, ltb→lt}
+use lib.Dec.{eqb, ltb, lt→ltb, ltb→lt}
 use lib.Pow.{pow-pos, pow-mono}
 use lib.ListN.{length, getD, set, length-set}
 use lib.Seq.{getD-set-same, getD-set-other}

@@ -1,7 +1,7 @@
 -- The loops that store the words of a block, input by input, and of all blocks.
-use mathlib.Core.Path.{_≡_, refl, sym, ap, ap₂, _∙_, subst}
+use mathlib.Core.Path.{_≡_, refl, ap, ap₂, _∙_}
 use mathlib.Core.Logic.{_≢_}
-use mathlib.Core.Bool.{Bool, _&&_}
+use mathlib.Core.Bool.{_&&_}
 use mathlib.Core.List.{List}
 use Prim.Native.Nat.{ℕ, zero, suc, _+_, _-_, _*_, _/_, _%_, _≤_, _<_}
 use native.Mathlib.Nat.{le-refl}
@@ -11,7 +11,6 @@ use lib.Dec.{eqb}
 use lib.ListN.{length, getD, take, drop, set, length-set, length-take, length-drop}
 use lib.Seq.{getD-set-same, getD-set-other, getD-take, getD-drop}
 use Rattle.hazard.specs.Cube.{bit}
-use Rattle.cube.specs.Mask.{cubeOf}
 use Rattle.cube.specs.declared.mask.Cube.{Cube}
 use Rattle.columns.specs.Relation.{allows, relates}
 use Rattle.columns.specs.Table.{AllowedAt}

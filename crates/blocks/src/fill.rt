@@ -1,6 +1,6 @@
 // The columns of up to 2,048 rows, block by block.
 ghost use mathlib.Core.Path.{_≡_};
-ghost use Prim.Native.Nat.{ℕ, _*_, _≤_, _<_};
+ghost use Prim.Native.Nat.{_*_, _≤_, _<_};
 ghost use lib.ListN.{length};
 ghost use Rattle.columns.specs.Relation.{relates};
 ghost use Rattle.blocks.specs.Blocks.{Blocks, BlockEnd, BlockFilled};

@@ -1,7 +1,6 @@
 // The rows of a set that allow a cube's digits go over into another set.
 ghost use mathlib.Core.Path.{_≡_};
-ghost use mathlib.Core.Bool.{not, _&&_};
-ghost use Prim.Native.Nat.{ℕ, _*_, _≤_, _<_};
+ghost use Prim.Native.Nat.{ℕ, _≤_, _<_};
 ghost use lib.Bits.{bitAnd, bitXor};
 ghost use lib.ListN.{length, getD};
 ghost use Rattle.blocks.specs.Blocks.{allowedTo};

@@ -1,24 +1,20 @@
 -- A product comes: the required cubes in it that had none have it for their first, and leave the set.
 use mathlib.Core.Path.{_≡_, refl, sym, ap, _∙_}
-use mathlib.Core.Logic.{_≢_}
 use mathlib.Core.Bool.{Bool, true, false, not, cond, _&&_}
 use mathlib.Core.List.{List}
 use Prim.Native.Nat.{ℕ, _*_, _/_, _%_, _^_, _≤_, _<_}
 use native.Mathlib.Nat.{zero-div}
 use native.Mathlib.Decide.{decLt}
 use native.Mathlib.Omega.{arith}
-use lib.Dec.{T, eqb, eqb→eq, ltb, ltb→lt, lt→ltb}
+use lib.Dec.{T, eqb, ltb, ltb→lt, lt→ltb}
 use lib.ListN.{length, getD, List·getD-eq-default}
 use borrow.Author.Tests.{ne-eqb}
-use Rattle.hazard.specs.Cube.{bit, inside}
-use Rattle.hazard.proofs.Test.{T-and, is, isnt, eqb-of}
-use Rattle.cube.specs.Mask.{cubeOf}
+use Rattle.hazard.specs.Cube.{bit}
+use Rattle.hazard.proofs.Test.{T-and, is, isnt}
 use Rattle.cube.specs.PointSet.{inSet}
 use Rattle.cube.specs.declared.mask.Cube as masks
 use Rattle.blocks.specs.Blocks.{allowedTo}
 use Rattle.blocks.specs.Sets.{Split}
-use Rattle.choice.specs.Network.{cubeIn}
-use Rattle.choice.specs.Rows.{Inside}
 use Rattle.choice.specs.First.{noteOf, Unnoted, Came}
 
 -- No row is past a set's words.

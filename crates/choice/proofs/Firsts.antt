@@ -11,7 +11,6 @@ use native.Mathlib.Decide.{ℕ-discrete}
 use lib.Dec.{T, eqb, eqb→eq}
 use lib.ListN.{length, getD, take, length-take, length-append, List·getD-append}
 use lib.Seq.{take-suc, getD-take, take-append-seam, take-append-le, getD-append-seam}
-use Rattle.hazard.specs.Search.{first}
 use Rattle.hazard.specs.Cube.{Cube, inside}
 use Rattle.hazard.specs.Cover.{Network, productAt, covered}
 use Rattle.hazard.proofs.Search.{none-some, First, nowhere, lowest, first-is, first-none, none-first}

@@ -9,7 +9,7 @@ use native.Mathlib.Nat.{not-suc-le-zero, le-of-suc-le-suc}
 use native.Mathlib.Omega.{arith}
 use native.Mathlib.Decide.{ℕ-discrete}
 use lib.Dec.{T, eqb, eqb→eq, ltb, lt→ltb}
-use lib.ListN.{length, getD, take, drop, set, length-set, length-take, length-map}
+use lib.ListN.{length, getD, take, drop, set, length-set, length-map}
 use lib.Seq.{take-length, drop-length, drop-cons, drop-set-lt, getD-set-same, getD-set-other}
 use Rattle.hazard.specs.Search.{found, first}
 use Rattle.hazard.specs.Cube.{inside}

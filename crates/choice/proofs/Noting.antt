@@ -1,6 +1,6 @@
 -- The loop that notes a product for the rows of a set.
 use mathlib.Core.Path.{_≡_, refl, sym, ap, _∙_}
-use mathlib.Core.Logic.{_≢_, inl, inr}
+use mathlib.Core.Logic.{_≢_}
 use mathlib.Core.Bool.{Bool, true, false, cond, _&&_}
 use mathlib.Core.List.{List}
 use Prim.Native.Nat.{ℕ, _+_, _*_, _/_, _%_, _^_, _≤_, _<_}
@@ -13,7 +13,7 @@ use lib.ListN.{length, getD, set, length-set, List·getD-eq-default}
 use lib.Seq.{getD-set-same, getD-set-other}
 use Rattle.hazard.specs.Cube.{bit, flip}
 use Rattle.hazard.proofs.Point.{flip-same, flip-other}
-use Rattle.hazard.proofs.Test.{T-and, is, isnt, known, so, eqb-of, bool-ext}
+use Rattle.hazard.proofs.Test.{T-and, is, isnt, eqb-of, bool-ext}
 use Rattle.cube.specs.PointSet.{inSet}
 use Rattle.blocks.proofs.Members.{lowest-few, lowest-set}
 use Rattle.choice.specs.First.{inWord}

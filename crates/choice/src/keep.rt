@@ -1,7 +1,7 @@
 // The products that are kept.
 ghost use mathlib.Core.Path.{_≡_};
-ghost use Prim.Native.Nat.{ℕ, _*_, _≤_, _<_};
-ghost use lib.ListN.{length, getD};
+ghost use Prim.Native.Nat.{_*_, _≤_, _<_};
+ghost use lib.ListN.{length};
 ghost use Rattle.hazard.specs.Search.{found, first};
 ghost use Rattle.choice.specs.Keep.{neededIn, Noted, Kept};
 ghost use Rattle.choice.specs.Rows.{Inside};

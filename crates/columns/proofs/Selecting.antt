@@ -1,7 +1,7 @@
 -- What a set of rows says of the rows: for the callers of `related`.
 use mathlib.Core.Path.{_≡_, refl, sym, ap, ap₂, _∙_}
 use mathlib.Core.Logic.{_≢_}
-use mathlib.Core.Bool.{Bool, true, false, not, _&&_, _||_}
+use mathlib.Core.Bool.{Bool, true, false, not, _&&_}
 use mathlib.Core.List.{List, [], _∷_, map}
 use mathlib.Core.Option.{none, some}
 use Prim.Native.Nat.{ℕ, zero, suc, _-_, _/_, _%_, _^_, _≤_, _<_}
@@ -14,8 +14,7 @@ use lib.Count.{trailingZeros}
 use lib.Dec.{eqb}
 use lib.ListN.{length, getD}
 use lib.Pow.{pow-pos, pow-mono, shr-lt}
-use Rattle.hazard.specs.Cube.{Cube, bit, inside}
-use Rattle.hazard.specs.Cover.{covered}
+use Rattle.hazard.specs.Cube.{bit}
 use Rattle.hazard.specs.Search.{find}
 use Rattle.cube.proofs.Bits.{bit-case2, and-again}
 use Rattle.cube.proofs.WordMask.{no-bit, and-bits, xor-bits}
@@ -108,26 +107,3 @@ module _ {A : Type 0} (test : A → Bool) (f : ℕ → A) {rows : List ℕ} {r :
     rows-find =
         find-at test f rows (trailingZeros 64 r) (lowest .low) (all-test (λ w. test (f w)) rows (trailingZeros 64 r) (lowest .low) (lowest .passes))
         (λ j h. all-test (λ w. test (f w)) rows j (omega (arith, lowest .low)) (lowest .earlier j h))
-
--- A cube inside the cube of some row.
-covered-at : (c : Cube) (f : ℕ → Cube) (rows : List ℕ) (z : ℕ) → z < length rows → inside c (f (getD rows z 0)) ≡ true → covered (map f rows) c ≡ true
-covered-at c f [] z l e = absurd (not-suc-le-zero l)
-covered-at c f (w ∷ rows) zero l e = ap (λ (b : Bool). b || covered (map f rows) c) e
-covered-at c f (w ∷ rows) (suc z) l e = ap (λ (b : Bool). inside c (f w) || b) (covered-at c f rows z (le-of-suc-le-suc l) e) ∙ or-true (inside c (f w))
-  where
-    or-true : (b : Bool) → (b || true) ≡ true
-    or-true true = refl
-    or-true false = refl
-
-covered-nowhere : (c : Cube) (f : ℕ → Cube) (rows : List ℕ) → ((j : ℕ) → j < length rows → inside c (f (getD rows j 0)) ≡ false) → covered (map f rows) c ≡ false
-covered-nowhere c f [] h = refl
-covered-nowhere c f (w ∷ rows) h = ap₂ _||_ (h 0 (omega arith)) (covered-nowhere c f rows (λ j i. h (suc j) (omega arith)))
-
-module _ (c : Cube) (f : ℕ → Cube) {rows : List ℕ} {r : ℕ} (s : Rows (λ w. inside c (f w)) rows (2 ^ length rows - 1) r) where
-  pub rows-uncovered : r ≡ 0 → covered (map f rows) c ≡ false
-  rows-uncovered e = covered-nowhere c f rows (λ k l. all-test (λ w. inside c (f w)) rows k l (rows-none s e k l))
-
-  pub rows-covered : length rows ≤ 64 → r ≢ 0 → covered (map f rows) c ≡ true
-  rows-covered few ne =
-      let v = rows-first s few (omega arith) ne in
-      covered-at c f rows (trailingZeros 64 r) (v .low) (all-test (λ w. inside c (f w)) rows (trailingZeros 64 r) (v .low) (v .passes))

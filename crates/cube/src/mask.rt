@@ -3,7 +3,7 @@ ghost use mathlib.Core.Path.{_≡_};
 ghost use Prim.Native.Nat.{ℕ, _≤_, _<_, _^_};
 ghost use lib.ListN.{set};
 ghost use Rattle.hazard.specs.Cube.{span, join, supercube, inside};
-ghost use Rattle.cube.specs.Mask.{cubeOf, Stands, Clean};
+ghost use Rattle.cube.specs.Mask.{cubeOf, Stands};
 
 // Bit i of care: input i has a literal. Bit i of value: that literal, 0 where there is none.
 pub struct Cube {

@@ -1,6 +1,6 @@
 // Points: their inputs, moves of one input, and the points of a cube in ascending order.
 ghost use mathlib.Core.Path.{_≡_};
-ghost use Prim.Native.Nat.{ℕ, _≤_, _<_, _^_};
+ghost use Prim.Native.Nat.{_≤_, _<_, _^_};
 ghost use lib.Dec.{T};
 ghost use Rattle.hazard.specs.Cube.{bit, flip, has};
 ghost use Rattle.cube.specs.Mask.{cubeOf, Clean};

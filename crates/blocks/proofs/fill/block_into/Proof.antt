@@ -1,6 +1,5 @@
-use lib.ListN.{length, length-set}
-use Prim.Native.Nat.{ℕ, _+_, _*_, _<_}
-use mathlib.Core.Path.{_≡_, _∙_, subst}
+use lib.ListN.{length-set}
+use mathlib.Core.Path.{_≡_}
 use Prim.Native.Nat.{_-_, _≤_}
 use native.Mathlib.Omega.{arith}
 use Rattle.blocks.specs.Blocks.{BlockFilled}

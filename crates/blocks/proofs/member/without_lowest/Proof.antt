@@ -1,4 +1,3 @@
-use mathlib.Core.Path.{ap}
 use native.Mathlib.Omega.{arith}
 use Rattle.blocks.proofs.Members.{lowest-few, one-at, one-below, cleared, cleared-less}
 use Rattle.blocks.proofs.member.without_lowest.Statement.{statement}

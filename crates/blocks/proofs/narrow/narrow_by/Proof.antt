@@ -3,7 +3,7 @@ use Prim.Native.Nat.{_+_, _-_, _≤_}
 use lib.Bits.{bitAnd}
 use lib.ListN.{length, getD}
 use native.Mathlib.Omega.{arith}
-use Rattle.cube.proofs.Sweep.{Sweep, sweep-start, sweep-step}
+use Rattle.cube.proofs.Sweep.{Sweep, sweep-step}
 use borrow.Author.Needs.{needs}
 use Rattle.blocks.proofs.narrow.narrow_by.Statement.{statement}
 use Rattle.blocks.proofs.narrow.narrow_by.Tie as tie

@@ -2,7 +2,7 @@ use mathlib.Core.Path.{refl}
 use Prim.Native.Nat.{_-_, _≤_}
 use lib.ListN.{length, getD}
 use native.Mathlib.Omega.{arith}
-use Rattle.cube.proofs.Sweep.{Sweep, sweep-start, sweep-step}
+use Rattle.cube.proofs.Sweep.{Sweep, sweep-step}
 use borrow.Author.Needs.{needs}
 use Rattle.blocks.proofs.split.copy_into.Statement.{statement}
 use Rattle.blocks.proofs.split.copy_into.Tie as tie

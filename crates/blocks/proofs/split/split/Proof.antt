@@ -4,11 +4,6 @@ use Rattle.blocks.proofs.Splitting.{split-is}
 use borrow.Author.Needs.{needs}
 use Rattle.blocks.proofs.split.split.Statement.{statement}
 use Rattle.blocks.proofs.split.split.Tie as tie
-use Rattle.blocks.proofs.split.split.Reads as reads
-use Rattle.blocks.proofs.split.split.Lts as lts
-use Rattle.blocks.proofs.narrow.narrow.Reads as narrow-reads
-use Rattle.blocks.proofs.split.copy_into.Reads as copy-into-reads
-use Rattle.blocks.proofs.split.remove.Reads as remove-reads
 
 -- src/split.rt:42:5
 copy-into-requires : tie.Need-copy-into-requires

@@ -1,5 +1,5 @@
 use Prim.Native.Nat.{_-_}
-use lib.ListN.{length, getD}
+use lib.ListN.{length}
 use native.Mathlib.Omega.{arith}
 use Rattle.blocks.proofs.Ones.{Filling, filling-start, filling-step}
 use borrow.Author.Needs.{needs}

@@ -1,5 +1,5 @@
 use Prim.Native.Nat.{_-_}
-use lib.ListN.{length, getD}
+use lib.ListN.{length}
 use native.Mathlib.Omega.{arith}
 use Rattle.choice.proofs.Noting.{Marking, marking-start, marking-word, marking-step, marking-end}
 use borrow.Author.Needs.{needs}

@@ -1,7 +1,3 @@
-use Rattle.blocks.proofs.Members.{lowest-few}
-use lib.ListN.{length}
-use Prim.Native.Nat.{_<_}
-use Prim.Native.Nat.{_+_, _*_, _^_}
 use native.Mathlib.Omega.{arith}
 use lib.Count.{trailing-le}
 use Rattle.choice.proofs.Noting.{Noting, noting-start, noting-at, noting-step, noting-end}

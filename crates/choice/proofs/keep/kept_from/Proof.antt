@@ -2,9 +2,8 @@ use mathlib.Core.Path.{refl}
 use Rattle.choice.proofs.Keeping.{split-off}
 use Rattle.choice.specs.Network.{cubeIn}
 use Rattle.cube.specs.Mask.{cubeOf}
-use Prim.Native.Nat.{_*_}
-use mathlib.Core.Path.{_≡_, sym, ap, _∙_}
-use Prim.Native.Nat.{ℕ, _-_, _≤_}
+use mathlib.Core.Path.{_≡_, sym, _∙_}
+use Prim.Native.Nat.{_-_}
 use native.Mathlib.Omega.{arith}
 use lib.ListN.{length, getD}
 use Rattle.choice.proofs.Keeping.{Keeping, keeping-start, keeping-turn, keeping-skip, keeping-keep, keeping-end}

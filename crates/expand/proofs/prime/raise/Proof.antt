@@ -1,7 +1,6 @@
 use Rattle.expand.proofs.Raising.{absent-digit, literal-digit}
 use Rattle.expand.proofs.Outcome.{kept}
 use Rattle.cube.specs.Mask.{cubeOf}
-use mathlib.Core.Bool.{Bool}
 use mathlib.Core.Path.{sym, _∙_}
 use borrow.Author.Needs.{needs}
 use Rattle.expand.proofs.prime.raise.Statement.{statement}

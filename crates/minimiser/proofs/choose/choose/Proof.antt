@@ -54,7 +54,7 @@ product-for-requires c κs =
     let s = c .before .before .before .before .before .before .before .before .before .before .before .before .before .before .before .before .before .before in
     let l = c .before .before .before .before .loop in
     let w = c .before .before .before .before .before .before .before .whole-into in
-    ((s .pre .0 .0, s .pre .0 .1, c .before .before .before .loop-test .taken), ((s .pre .1 .0 .0 .long, omega (arith, l .inv .3, w .kept .1 .0, s .pre .1 .0 .1), omega (arith, l .inv .3, w .kept .1 .0, s .pre .1 .0 .2, c .before .before .before .loop-test .taken)), s .pre .1 .1 .0))
+    ((s .pre .0 .0, s .pre .0 .1, omega (arith, c .before .before .before .loop-test .taken)), ((s .pre .1 .0 .0 .long, omega (arith, l .inv .3, w .kept .1 .0, s .pre .1 .0 .1), omega (arith, l .inv .3, w .kept .1 .0, s .pre .1 .0 .2, c .before .before .before .loop-test .taken)), s .pre .1 .1 .0))
 
 enum-known-made : tie.Need-enum-known-made Inv-loop μ-loop
 enum-known-made c = search needs
