@@ -4,6 +4,7 @@ ghost use Prim.Native.Nat.{_*_, _≤_};
 ghost use lib.ListN.{length};
 ghost use Rattle.hazard.specs.Sets as sets;
 ghost use Rattle.hazard.specs.Transition as transition;
+ghost use Rattle.points.specs.Plane.{Plane};
 ghost use Rattle.problem.specs.Ready.{Ready};
 ghost use Rattle.minimiser.specs.Room.{Room, Columns};
 ghost use Rattle.minimiser.specs.Answer.{minimisedOf, Answered};
@@ -21,12 +22,13 @@ pub enum Minimised {
     Refused(Refusal),
 }
 
-// The problem's sets are stored in the lent room, and covered.
+// The problem's sets are stored in the lent room, and covered. `off` and `ones` are the table's planes of 0 and of 1.
 fn cover_with(
     n: usize,
     table: &[u8],
     transitions: &[u16],
-    off: &mut [u64],
+    off: &[u64],
+    ones: &[u64],
     privileged: &mut [u64],
     legal: &mut [u64],
     required: &mut [u64],
@@ -38,10 +40,10 @@ fn cover_with(
     cover: &mut [u8],
 ) -> Minimised
     requires { ⌜ Ready n (now table) (now transitions) × (length (sets.required n (now table) (now transitions)) ≤ 2048) × (length (sets.required n (now table) (now transitions)) * n ≤ length (now cover)) ⌝ }
-    requires { ⌜ (length (now off) ≡ 16) × (length (now privileged) ≡ 64) × (length (now legal) ≡ 60) × Room (length (sets.required n (now table) (now transitions))) (now required) (now firsts) (now products) × Columns (length (sets.required n (now table) (now transitions))) (now columns) (now left) (now taken) ⌝ }
+    requires { ⌜ Plane (now table) 0 (now off) × Plane (now table) 1 (now ones) × (length (now privileged) ≡ 64) × (length (now legal) ≡ 60) × Room (length (sets.required n (now table) (now transitions))) (now required) (now firsts) (now products) × Columns (length (sets.required n (now table) (now transitions))) (now columns) (now left) (now taken) ⌝ }
     ensures { λ r. ⌜ Answered n (transition.off (now (table .entry))) (sets.privileged n (now (table .entry)) (now (transitions .entry))) (sets.required n (now (table .entry)) (now (transitions .entry))) (now (cover .entry)) (now (cover .exit)) (minimisedOf r) ⌝ }
 {
-    let s = sets_into(n, table, transitions, off, privileged, required);
+    let s = sets_into(n, table, transitions, off, ones, privileged, required);
     let p = s.privileged;
     let r = s.required;
     let b = (r + 63) / 64;
@@ -63,11 +65,18 @@ fn cover_with(
 }
 
 // The same in room of its own, for at most 64 required cubes.
-fn cover_few(n: usize, table: &[u8], transitions: &[u16], cover: &mut [u8]) -> Minimised
+fn cover_few(
+    n: usize,
+    table: &[u8],
+    transitions: &[u16],
+    off: &[u64],
+    ones: &[u64],
+    cover: &mut [u8],
+) -> Minimised
     requires { ⌜ Ready n (now table) (now transitions) × (length (sets.required n (now table) (now transitions)) ≤ 64) × (length (sets.required n (now table) (now transitions)) * n ≤ length (now cover)) ⌝ }
+    requires { ⌜ Plane (now table) 0 (now off) × Plane (now table) 1 (now ones) ⌝ }
     ensures { λ r. ⌜ Answered n (transition.off (now (table .entry))) (sets.privileged n (now (table .entry)) (now (transitions .entry))) (sets.required n (now (table .entry)) (now (transitions .entry))) (now (cover .entry)) (now (cover .exit)) (minimisedOf r) ⌝ }
 {
-    let mut off = [0u64; 16];
     let mut privileged = [0u64; 64];
     let mut legal = [0u64; 60];
     let mut required = [0u64; 64];
@@ -80,7 +89,8 @@ fn cover_few(n: usize, table: &[u8], transitions: &[u16], cover: &mut [u8]) -> M
         n,
         table,
         transitions,
-        &mut off,
+        off,
+        ones,
         &mut privileged,
         &mut legal,
         &mut required,
@@ -94,11 +104,18 @@ fn cover_few(n: usize, table: &[u8], transitions: &[u16], cover: &mut [u8]) -> M
 }
 
 // The same, for at most 2,048.
-fn cover_many(n: usize, table: &[u8], transitions: &[u16], cover: &mut [u8]) -> Minimised
+fn cover_many(
+    n: usize,
+    table: &[u8],
+    transitions: &[u16],
+    off: &[u64],
+    ones: &[u64],
+    cover: &mut [u8],
+) -> Minimised
     requires { ⌜ Ready n (now table) (now transitions) × (length (sets.required n (now table) (now transitions)) ≤ 2048) × (length (sets.required n (now table) (now transitions)) * n ≤ length (now cover)) ⌝ }
+    requires { ⌜ Plane (now table) 0 (now off) × Plane (now table) 1 (now ones) ⌝ }
     ensures { λ r. ⌜ Answered n (transition.off (now (table .entry))) (sets.privileged n (now (table .entry)) (now (transitions .entry))) (sets.required n (now (table .entry)) (now (transitions .entry))) (now (cover .entry)) (now (cover .exit)) (minimisedOf r) ⌝ }
 {
-    let mut off = [0u64; 16];
     let mut privileged = [0u64; 64];
     let mut legal = [0u64; 60];
     let mut required = [0u64; 2048];
@@ -111,7 +128,8 @@ fn cover_many(n: usize, table: &[u8], transitions: &[u16], cover: &mut [u8]) -> 
         n,
         table,
         transitions,
-        &mut off,
+        off,
+        ones,
         &mut privileged,
         &mut legal,
         &mut required,
@@ -129,15 +147,17 @@ pub fn network_into(
     n: usize,
     table: &[u8],
     transitions: &[u16],
+    off: &[u64],
+    ones: &[u64],
     count: usize,
     cover: &mut [u8],
 ) -> Minimised
     requires { ⌜ Ready n (now table) (now transitions) × (length (sets.required n (now table) (now transitions)) ≤ 2048) × (length (sets.required n (now table) (now transitions)) * n ≤ length (now cover)) ⌝ }
-    requires { ⌜ count ≡ length (sets.required n (now table) (now transitions)) ⌝ }
+    requires { ⌜ Plane (now table) 0 (now off) × Plane (now table) 1 (now ones) × (count ≡ length (sets.required n (now table) (now transitions))) ⌝ }
     ensures { λ r. ⌜ Answered n (transition.off (now (table .entry))) (sets.privileged n (now (table .entry)) (now (transitions .entry))) (sets.required n (now (table .entry)) (now (transitions .entry))) (now (cover .entry)) (now (cover .exit)) (minimisedOf r) ⌝ }
 {
     if count <= 64 {
-        return cover_few(n, table, transitions, cover);
+        return cover_few(n, table, transitions, off, ones, cover);
     }
-    cover_many(n, table, transitions, cover)
+    cover_many(n, table, transitions, off, ones, cover)
 }

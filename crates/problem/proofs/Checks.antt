@@ -1,5 +1,5 @@
 -- What the checks say, one after another, and what an accepted problem gives.
-use mathlib.Core.Path.{_≡_, refl, sym, ap, _∙_}
+use mathlib.Core.Path.{_≡_, refl, sym, ap, subst, _∙_}
 use mathlib.Core.Logic.{inl, inr}
 use mathlib.Core.Bool.{Bool, true, false, _||_}
 use mathlib.Core.List.{List, [], _∷_}
@@ -13,13 +13,17 @@ use lib.Pow.{pow-pos, pow-mono}
 use Rattle.hazard.specs.Search.{firstOf}
 use Rattle.hazard.specs.Transition.{start, end, count}
 use Rattle.hazard.specs.Refusal as spec
+use Rattle.hazard.specs.Sets.{required}
 use Rattle.hazard.proofs.Test.{or-e}
 use Rattle.hazard.proofs.Rules.{few-inputs, table-length, list-length, points}
-use Rattle.problem.specs.Answer.{refusalOf, checkedOf}
+use Rattle.points.specs.Plane.{Plane}
+use Rattle.problem.specs.Answer.{refusalOf, checkedOf, CountedBy, Answer}
 use Rattle.problem.specs.Ready.{Ready}
 use Rattle.problem.specs.declared.refusal.Refusal.{Refusal}
 use Rattle.problem.specs.declared.refusal.Checked.{Checked}
 use Rattle.problem.specs.declared.refusal.Checked.the-variants.{Accepted, Refused}
+use Rattle.problem.specs.declared.check.Counted.{Counted}
+use Rattle.problem.specs.declared.check.Counted.the-variants as counted
 
 -- One of two tests, and neither.
 pub or-true : (a b : Bool) → a ≡ true → (a || b) ≡ true
@@ -48,16 +52,32 @@ module _ {x : Checked} {o : Option spec.Refusal} (e : checkedOf x ≡ o) where
   pub refused-by : {r : Refusal} → x ≡ Refused r → some (refusalOf r) ≡ o
   refused-by q = ap checkedOf (sym q) ∙ e
 
-  pub first-refused : {r : Refusal} → x ≡ Refused r → (l : List (Option spec.Refusal)) → checkedOf (Refused r) ≡ firstOf (o ∷ l)
+  pub first-refused : {r : Refusal} → x ≡ Refused r → (l : List (Option spec.Refusal)) → firstOf (o ∷ l) ≡ some (refusalOf r)
   first-refused q l = let h = sym (ap checkedOf q) ∙ e in rw (← h)
 
-  pub first-passed : x ≡ Accepted → {p : Option spec.Refusal} (l : List (Option spec.Refusal)) → p ≡ firstOf l → p ≡ firstOf (o ∷ l)
-  first-passed q l h = rw (passed q) h
+  pub first-passed : x ≡ Accepted → (l : List (Option spec.Refusal)) → firstOf (o ∷ l) ≡ firstOf l
+  first-passed q l = rw (passed q)
 
--- A last check.
-pub only : {p o : Option spec.Refusal} → p ≡ o → p ≡ firstOf (o ∷ [])
-only {o = none} e = e
-only {o = some r} e = e
+-- Checks that find the same have the same answer.
+pub counted-as : (n : ℕ) (f ts : List ℕ) (r : Counted) {o p : Option spec.Refusal} → o ≡ p → CountedBy p n f ts r → CountedBy o n f ts r
+counted-as n f ts r e h = subst (λ (q : Option spec.Refusal). CountedBy q n f ts r) (sym e) h
+
+module _ (n : ℕ) (f ts zeros ones : List ℕ) (r : Counted) where
+  pub answer-as : {o p : Option spec.Refusal} → o ≡ p → Answer p n f ts zeros ones r → Answer o n f ts zeros ones r
+  answer-as e h = subst (λ (q : Option spec.Refusal). Answer q n f ts zeros ones r) (sym e) h
+
+  -- The answer, by its cases.
+  pub answer-accepted : (o : Option spec.Refusal) → Answer o n f ts zeros ones r → {k : ℕ} → r ≡ counted.Accepted k
+      → (o ≡ none) × (k ≡ length (required n f ts)) × Plane f 0 zeros × Plane f 1 ones
+  answer-accepted o h e = subst (Answer o n f ts zeros ones) e h
+
+  pub answer-refused : (o : Option spec.Refusal) → Answer o n f ts zeros ones r → {q : Refusal} → r ≡ counted.Refused q → some (refusalOf q) ≡ o
+  answer-refused o h e = sym (subst (Answer o n f ts zeros ones) e h)
+
+-- The planes are filled, whatever the checks find.
+pub answer-filled : (o : Option spec.Refusal) (n : ℕ) (f ts zeros ones : List ℕ) → Plane f 0 zeros → Plane f 1 ones → (r : Counted) → CountedBy o n f ts r → Answer o n f ts zeros ones r
+answer-filled o n f ts zeros ones z w (counted.Accepted k) h = (h .0, h .1, z, w)
+answer-filled o n f ts zeros ones z w (counted.Refused q) h = h
 
 -- A table of at most 10 inputs.
 pub ready-few : {n : ℕ} {f ts : List ℕ} → Ready n f ts → length f ≤ 1024

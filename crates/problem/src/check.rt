@@ -9,10 +9,11 @@ ghost use Rattle.hazard.specs.Search.{firstOf};
 ghost use Rattle.hazard.specs.Transition.{count};
 ghost use Rattle.hazard.specs.Refusal.{refusal, inputsCheck, lengthCheck, bytesCheck, listCheck, endsCheck, manyCheck, inputChecks};
 ghost use Rattle.points.specs.Plane.{Plane, Planes};
-ghost use Rattle.problem.specs.Answer.{checkedOf, senseChecks, transitionChecks};
+ghost use Rattle.problem.specs.Answer.{checkedOf, CountedBy, Answer, senseChecks, transitionChecks};
 ghost use Rattle.problem.specs.Fault.{pointsCheck};
 ghost use Rattle.problem.specs.Ready.{Ready};
 use crate::refusal::Checked;
+use crate::refusal::Refusal;
 use crate::refusal::refuse;
 use crate::required::count_by;
 use crate::scan::Found;
@@ -20,6 +21,12 @@ use crate::scan::fault_at;
 use crate::transition::end_of;
 use crate::transition::start_of;
 use points::plane::plane_into;
+
+// What the input rules say: how many required cubes there are, or a refusal.
+pub enum Counted {
+    Accepted(usize),
+    Refused(Refusal),
+}
 
 // A refusal as what a check says.
 fn refused(number: u16, transition: u16, point: u16) -> Checked
@@ -140,16 +147,17 @@ fn check_points(
     Checked::Accepted
 }
 
-// 8: more than 2,048 required cubes.
-fn check_many(n: usize, table: &[u8], transitions: &[u16], ones: &[u64]) -> Checked
+// 8: more than 2,048 required cubes; or their count.
+fn check_many(n: usize, table: &[u8], transitions: &[u16], ones: &[u64]) -> Counted
     requires { ⌜ Ready n (now table) (now transitions) ⌝ }
     requires { ⌜ Plane (now table) 1 (now ones) ⌝ }
-    ensures { λ r. ⌜ checkedOf r ≡ manyCheck n (now (table .entry)) (now (transitions .entry)) ⌝ }
+    ensures { λ r. ⌜ CountedBy (manyCheck n (now (table .entry)) (now (transitions .entry))) n (now (table .entry)) (now (transitions .entry)) r ⌝ }
 {
-    if 2048 < count_by(n, table, transitions, ones) {
-        return refused(8, 0, 0);
+    let count = count_by(n, table, transitions, ones);
+    if 2048 < count {
+        return Counted::Refused(refuse(8, 0, 0));
     }
-    Checked::Accepted
+    Counted::Accepted(count)
 }
 
 // Checks 6 to 8, by the planes of the table.
@@ -160,60 +168,81 @@ fn check_planes(
     zeros: &[u64],
     ones: &[u64],
     twos: &[u64],
-) -> Checked
+) -> Counted
     requires { ⌜ Ready n (now table) (now transitions) ⌝ }
     requires { ⌜ Planes (now table) (now zeros) (now ones) (now twos) ⌝ }
-    ensures { λ r. ⌜ checkedOf r ≡ firstOf (senseChecks n (now (table .entry)) (now (transitions .entry))) ⌝ }
+    ensures { λ r. ⌜ CountedBy (firstOf (senseChecks n (now (table .entry)) (now (transitions .entry)))) n (now (table .entry)) (now (transitions .entry)) r ⌝ }
 {
     if let Checked::Refused(r) = check_points(6, n, table, transitions, zeros, ones, twos) {
-        return Checked::Refused(r);
+        return Counted::Refused(r);
     }
     if let Checked::Refused(r) = check_points(7, n, table, transitions, zeros, ones, twos) {
-        return Checked::Refused(r);
+        return Counted::Refused(r);
     }
     check_many(n, table, transitions, ones)
 }
 
-// Checks 6 to 8: what needs a table and transitions between its points.
-fn check_sense(n: usize, table: &[u8], transitions: &[u16]) -> Checked
+// Checks 6 to 8: what needs a table and transitions between its points. The planes are filled.
+fn check_sense(
+    n: usize,
+    table: &[u8],
+    transitions: &[u16],
+    zeros: &mut [u64],
+    ones: &mut [u64],
+    twos: &mut [u64],
+) -> Counted
     requires { ⌜ Ready n (now table) (now transitions) ⌝ }
-    ensures { λ r. ⌜ checkedOf r ≡ firstOf (senseChecks n (now (table .entry)) (now (transitions .entry))) ⌝ }
+    requires { ⌜ (length (now zeros) ≡ 16) × (length (now ones) ≡ 16) × (length (now twos) ≡ 16) ⌝ }
+    ensures { λ r. ⌜ Answer (firstOf (senseChecks n (now (table .entry)) (now (transitions .entry)))) n (now (table .entry)) (now (transitions .entry)) (now (zeros .exit)) (now (ones .exit)) r ⌝ }
 {
-    let mut zeros = [0u64; 16];
-    let mut ones = [0u64; 16];
-    let mut twos = [0u64; 16];
-    plane_into(table, 0, &mut zeros);
-    plane_into(table, 1, &mut ones);
-    plane_into(table, 2, &mut twos);
-    check_planes(n, table, transitions, &zeros, &ones, &twos)
+    plane_into(table, 0, zeros);
+    plane_into(table, 1, ones);
+    plane_into(table, 2, twos);
+    check_planes(n, table, transitions, zeros, ones, twos)
 }
 
 // Checks 4 to 8: what needs a table of 2^n points.
-fn check_transitions(n: usize, table: &[u8], transitions: &[u16]) -> Checked
+fn check_transitions(
+    n: usize,
+    table: &[u8],
+    transitions: &[u16],
+    zeros: &mut [u64],
+    ones: &mut [u64],
+    twos: &mut [u64],
+) -> Counted
     requires { ⌜ (n ≤ 10) × (length (now table) ≡ 2 ^ n) ⌝ }
-    ensures { λ r. ⌜ checkedOf r ≡ firstOf (transitionChecks n (now (table .entry)) (now (transitions .entry))) ⌝ }
+    requires { ⌜ (length (now zeros) ≡ 16) × (length (now ones) ≡ 16) × (length (now twos) ≡ 16) ⌝ }
+    ensures { λ r. ⌜ Answer (firstOf (transitionChecks n (now (table .entry)) (now (transitions .entry)))) n (now (table .entry)) (now (transitions .entry)) (now (zeros .exit)) (now (ones .exit)) r ⌝ }
 {
     if let Checked::Refused(r) = check_list(transitions) {
-        return Checked::Refused(r);
+        return Counted::Refused(r);
     }
     if let Checked::Refused(r) = check_ends(n, transitions) {
-        return Checked::Refused(r);
+        return Counted::Refused(r);
     }
-    check_sense(n, table, transitions)
+    check_sense(n, table, transitions, zeros, ones, twos)
 }
 
-// The input rules. Nothing is asked of what comes in.
-pub fn check(n: usize, table: &[u8], transitions: &[u16]) -> Checked
-    ensures { λ r. ⌜ checkedOf r ≡ firstOf (inputChecks n (now (table .entry)) (now (transitions .entry))) ⌝ }
+// The input rules. Nothing is asked of the problem that comes in; its planes are made in the lent words.
+pub fn check(
+    n: usize,
+    table: &[u8],
+    transitions: &[u16],
+    zeros: &mut [u64],
+    ones: &mut [u64],
+    twos: &mut [u64],
+) -> Counted
+    requires { ⌜ (length (now zeros) ≡ 16) × (length (now ones) ≡ 16) × (length (now twos) ≡ 16) ⌝ }
+    ensures { λ r. ⌜ Answer (firstOf (inputChecks n (now (table .entry)) (now (transitions .entry)))) n (now (table .entry)) (now (transitions .entry)) (now (zeros .exit)) (now (ones .exit)) r ⌝ }
 {
     if let Checked::Refused(r) = check_inputs(n) {
-        return Checked::Refused(r);
+        return Counted::Refused(r);
     }
     if let Checked::Refused(r) = check_length(n, table) {
-        return Checked::Refused(r);
+        return Counted::Refused(r);
     }
     if let Checked::Refused(r) = check_bytes(table) {
-        return Checked::Refused(r);
+        return Counted::Refused(r);
     }
-    check_transitions(n, table, transitions)
+    check_transitions(n, table, transitions, zeros, ones, twos)
 }

@@ -20,7 +20,6 @@ use cube::mask::span_of;
 use cube::point::next;
 use cube::word_mask::low_mask;
 use cube::word_mask::word_cube;
-use points::plane::plane_into;
 use points::turn::last_points;
 
 // How many required cubes there are, by the points of value 1.
@@ -39,16 +38,6 @@ pub fn count_by(n: usize, table: &[u8], transitions: &[u16], ones: &[u64]) -> us
         t += 1;
     }
     total
-}
-
-// How many required cubes there are.
-pub fn count_required(n: usize, table: &[u8], transitions: &[u16]) -> usize
-    requires { ⌜ Ready n (now table) (now transitions) ⌝ }
-    ensures { λ r. ⌜ r ≡ length (required n (now (table .entry)) (now (transitions .entry))) ⌝ }
-{
-    let mut ones = [0u64; 16];
-    plane_into(table, 1, &mut ones);
-    count_by(n, table, transitions, &ones)
 }
 
 // The required cube of transition t between s and the label x, stored at a place; the next place.
@@ -130,7 +119,13 @@ fn transition_into(
 }
 
 // The required cubes, by the points of value 1; how many.
-fn required_by(n: usize, table: &[u8], transitions: &[u16], ones: &[u64], out: &mut [u64]) -> usize
+pub fn required_by(
+    n: usize,
+    table: &[u8],
+    transitions: &[u16],
+    ones: &[u64],
+    out: &mut [u64],
+) -> usize
     requires { ⌜ Ready n (now table) (now transitions) ⌝ }
     requires { ⌜ Plane (now table) 1 (now ones) ⌝ }
     requires { ⌜ length (required n (now table) (now transitions)) ≤ length (now out) ⌝ }
@@ -146,15 +141,4 @@ fn required_by(n: usize, table: &[u8], transitions: &[u16], ones: &[u64], out: &
         t += 1;
     }
     k
-}
-
-// The required cubes; how many.
-pub fn required_into(n: usize, table: &[u8], transitions: &[u16], out: &mut [u64]) -> usize
-    requires { ⌜ Ready n (now table) (now transitions) ⌝ }
-    requires { ⌜ length (required n (now table) (now transitions)) ≤ length (now out) ⌝ }
-    ensures { λ r. ⌜ Held n (requiredIn n) (now (out .entry)) (now (out .exit)) r (required n (now (table .entry)) (now (transitions .entry))) ⌝ }
-{
-    let mut ones = [0u64; 16];
-    plane_into(table, 1, &mut ones);
-    required_by(n, table, transitions, &ones, out)
 }

@@ -3,11 +3,11 @@ ghost use mathlib.Core.Path.{_≡_};
 ghost use Prim.Native.Nat.{_≤_};
 ghost use lib.ListN.{length};
 ghost use Rattle.hazard.specs.Sets as sets;
+ghost use Rattle.points.specs.Plane.{Plane};
 ghost use Rattle.problem.specs.Ready.{Ready};
 ghost use Rattle.problem.specs.Store.{StoredSets};
 use crate::privileged::privileged_into;
-use crate::required::required_into;
-use points::plane::plane_into;
+use crate::required::required_by;
 
 // How many privileged and how many required cubes there are.
 pub struct Counts {
@@ -15,23 +15,23 @@ pub struct Counts {
     pub required: usize,
 }
 
-// The OFF-set, the privileged cubes and the required cubes, stored in the lent room.
+// The privileged and the required cubes, stored in the lent room. `off` and `ones` are the table's planes of 0 and of 1.
 pub fn sets_into(
     n: usize,
     table: &[u8],
     transitions: &[u16],
-    off: &mut [u64],
+    off: &[u64],
+    ones: &[u64],
     privileged: &mut [u64],
     required: &mut [u64],
 ) -> Counts
     requires { ⌜ Ready n (now table) (now transitions) ⌝ }
-    requires { ⌜ (length (now off) ≡ 16) × (64 ≤ length (now privileged)) × (length (sets.required n (now table) (now transitions)) ≤ length (now required)) ⌝ }
+    requires { ⌜ Plane (now table) 0 (now off) × Plane (now table) 1 (now ones) × (64 ≤ length (now privileged)) × (length (sets.required n (now table) (now transitions)) ≤ length (now required)) ⌝ }
     ensures { λ r. ⌜ (r .privileged ≤ length (now (privileged .entry))) × (r .required ≤ length (now (required .entry)))
-        × StoredSets n (now (table .entry)) (now (transitions .entry)) (now (off .exit)) (now (privileged .exit)) (now (required .exit)) (r .privileged) (r .required) ⌝ }
+        × StoredSets n (now (table .entry)) (now (transitions .entry)) (now (off .entry)) (now (privileged .exit)) (now (required .exit)) (r .privileged) (r .required) ⌝ }
 {
-    plane_into(table, 0, off);
     Counts {
         privileged: privileged_into(n, table, transitions, privileged),
-        required: required_into(n, table, transitions, required),
+        required: required_by(n, table, transitions, ones, required),
     }
 }

@@ -4,6 +4,7 @@ ghost use Prim.Native.Nat.{_*_, _/_, _≤_};
 ghost use lib.ListN.{length};
 ghost use Rattle.hazard.specs.Sets as sets;
 ghost use Rattle.hazard.specs.Verdict as spec;
+ghost use Rattle.points.specs.Plane.{Plane};
 ghost use Rattle.problem.specs.Ready.{Ready};
 ghost use Rattle.verifier.specs.Answer.{verdictOf};
 ghost use Rattle.verifier.specs.Network.{Sound};
@@ -16,12 +17,14 @@ use expand::meeting::columns_into;
 use problem::sets::sets_into;
 
 // The problem's sets and the network's products are stored in the lent room with their columns, and the conditions are tried on them.
+// `off` and `ones` are the table's planes of 0 and of 1.
 fn judge_with(
     n: usize,
     table: &[u8],
     transitions: &[u16],
     network: &[u8],
-    off: &mut [u64],
+    off: &[u64],
+    ones: &[u64],
     privileged: &mut [u64],
     legal: &mut [u64],
     required: &mut [u64],
@@ -30,11 +33,11 @@ fn judge_with(
     rows: &mut [u64],
 ) -> Verdict
     requires { ⌜ Ready n (now table) (now transitions) × (length (sets.required n (now table) (now transitions)) ≤ 2048) × Sound n (now network) ⌝ }
-    requires { ⌜ (length (now off) ≡ 16) × (length (now privileged) ≡ 64) × (length (sets.required n (now table) (now transitions)) ≤ length (now required)) × (length (now network) / n ≤ length (now products)) ⌝ }
+    requires { ⌜ Plane (now table) 0 (now off) × Plane (now table) 1 (now ones) × (length (now privileged) ≡ 64) × (length (sets.required n (now table) (now transitions)) ≤ length (now required)) × (length (now network) / n ≤ length (now products)) ⌝ }
     requires { ⌜ (length (now legal) ≡ 60) × (length (now columns) ≡ 960) × (length (now rows) ≤ 32) × (length (now network) / n ≤ 64 * length (now rows)) ⌝ }
     ensures { λ r. ⌜ verdictOf r ≡ spec.fault n (now (table .entry)) (now (transitions .entry)) (spec.products n (now (network .entry))) ⌝ }
 {
-    let s = sets_into(n, table, transitions, off, privileged, required);
+    let s = sets_into(n, table, transitions, off, ones, privileged, required);
     let p = s.privileged;
     let r = s.required;
     let m = read_network(n, network, products);
@@ -53,15 +56,22 @@ fn judge_with(
     )
 }
 
-// The same in room of its own, for at most 64 products.
-fn judge_few(n: usize, table: &[u8], transitions: &[u16], network: &[u8]) -> Verdict
-    requires { ⌜ Ready n (now table) (now transitions) × (length (sets.required n (now table) (now transitions)) ≤ 2048) × Sound n (now network) × (length (now network) / n ≤ 64) ⌝ }
+// The same in room of its own, for at most 64 required cubes and 64 products.
+fn judge_few(
+    n: usize,
+    table: &[u8],
+    transitions: &[u16],
+    network: &[u8],
+    off: &[u64],
+    ones: &[u64],
+) -> Verdict
+    requires { ⌜ Ready n (now table) (now transitions) × (length (sets.required n (now table) (now transitions)) ≤ 64) × Sound n (now network) × (length (now network) / n ≤ 64) ⌝ }
+    requires { ⌜ Plane (now table) 0 (now off) × Plane (now table) 1 (now ones) ⌝ }
     ensures { λ r. ⌜ verdictOf r ≡ spec.fault n (now (table .entry)) (now (transitions .entry)) (spec.products n (now (network .entry))) ⌝ }
 {
-    let mut off = [0u64; 16];
     let mut privileged = [0u64; 64];
     let mut legal = [0u64; 60];
-    let mut required = [0u64; 2048];
+    let mut required = [0u64; 64];
     let mut products = [0u64; 64];
     let mut columns = [0u64; 960];
     let mut rows = [0u64; 1];
@@ -70,7 +80,8 @@ fn judge_few(n: usize, table: &[u8], transitions: &[u16], network: &[u8]) -> Ver
         table,
         transitions,
         network,
-        &mut off,
+        off,
+        ones,
         &mut privileged,
         &mut legal,
         &mut required,
@@ -81,11 +92,18 @@ fn judge_few(n: usize, table: &[u8], transitions: &[u16], network: &[u8]) -> Ver
 }
 
 // The same, for at most 2,048.
-fn judge_many(n: usize, table: &[u8], transitions: &[u16], network: &[u8]) -> Verdict
+fn judge_many(
+    n: usize,
+    table: &[u8],
+    transitions: &[u16],
+    network: &[u8],
+    off: &[u64],
+    ones: &[u64],
+) -> Verdict
     requires { ⌜ Ready n (now table) (now transitions) × (length (sets.required n (now table) (now transitions)) ≤ 2048) × Sound n (now network) × (length (now network) / n ≤ 2048) ⌝ }
+    requires { ⌜ Plane (now table) 0 (now off) × Plane (now table) 1 (now ones) ⌝ }
     ensures { λ r. ⌜ verdictOf r ≡ spec.fault n (now (table .entry)) (now (transitions .entry)) (spec.products n (now (network .entry))) ⌝ }
 {
-    let mut off = [0u64; 16];
     let mut privileged = [0u64; 64];
     let mut legal = [0u64; 60];
     let mut required = [0u64; 2048];
@@ -97,7 +115,8 @@ fn judge_many(n: usize, table: &[u8], transitions: &[u16], network: &[u8]) -> Ve
         table,
         transitions,
         network,
-        &mut off,
+        off,
+        ones,
         &mut privileged,
         &mut legal,
         &mut required,
@@ -107,13 +126,25 @@ fn judge_many(n: usize, table: &[u8], transitions: &[u16], network: &[u8]) -> Ve
     )
 }
 
-// The same, for any number. Room is set to zero before it is used: for the most part little is needed for the products.
-pub fn judge(n: usize, table: &[u8], transitions: &[u16], network: &[u8]) -> Verdict
+// The same, for any number, where the required cubes are counted. Room is set to zero before it is used: for the most part little is needed.
+pub fn judge(
+    n: usize,
+    table: &[u8],
+    transitions: &[u16],
+    network: &[u8],
+    off: &[u64],
+    ones: &[u64],
+    count: usize,
+) -> Verdict
     requires { ⌜ Ready n (now table) (now transitions) × (length (sets.required n (now table) (now transitions)) ≤ 2048) × Sound n (now network) ⌝ }
+    requires { ⌜ Plane (now table) 0 (now off) × Plane (now table) 1 (now ones) × (count ≡ length (sets.required n (now table) (now transitions))) ⌝ }
     ensures { λ r. ⌜ verdictOf r ≡ spec.fault n (now (table .entry)) (now (transitions .entry)) (spec.products n (now (network .entry))) ⌝ }
 {
-    if network.len() / n <= 64 {
-        return judge_few(n, table, transitions, network);
+    if 64 < count {
+        return judge_many(n, table, transitions, network, off, ones);
     }
-    judge_many(n, table, transitions, network)
+    if network.len() / n <= 64 {
+        return judge_few(n, table, transitions, network, off, ones);
+    }
+    judge_many(n, table, transitions, network, off, ones)
 }

@@ -29,13 +29,10 @@ slice-aggregate-cover-with-7 c = search needs
 slice-aggregate-cover-with-8 : tie.Need-slice-aggregate-cover-with-8
 slice-aggregate-cover-with-8 c = search needs
 
-slice-aggregate-cover-with-9 : tie.Need-slice-aggregate-cover-with-9
-slice-aggregate-cover-with-9 c = search needs
-
 cover-with-requires : tie.Need-cover-with-requires
 cover-with-requires c κs =
-    let s = c .before .before .before .before .before .before .before .before .before .before .before .before .before in
-    ((s .pre .0, s .pre .1, s .pre .2), (refl, refl, refl, room-of 2048 (s .pre .1), columns-of 32 (omega arith) (omega (arith, s .pre .1))))
+    let s = c .before .before .before .before .before .before .before .before .before .before .before .before .before .before in
+    (s .pre .0, (s .pre .1 .0, s .pre .1 .1, refl, refl, room-of 2048 (s .pre .0 .1), columns-of 32 (omega arith) (omega (arith, s .pre .0 .1))))
 
 same-length : tie.Need-same-length
 same-length c = search needs
@@ -55,7 +52,6 @@ cover-many-spec =
     slice-aggregate-cover-with-6
     slice-aggregate-cover-with-7
     slice-aggregate-cover-with-8
-    slice-aggregate-cover-with-9
     cover-with-requires
     same-length
     returns)

@@ -5,16 +5,19 @@ use Rattle.problem.proofs.Parts.{parts}
 use lib.ListN.{length, length-take}
 use native.Mathlib.Omega.{arith}
 use Prim.Native.Nat.{_-_, _≤_}
-use mathlib.Core.Path.{_∙_}
 use borrow.Author.Needs.{needs}
 use Rattle.minimiser.proofs.network.cover_with.Statement.{statement}
 use Rattle.minimiser.proofs.network.cover_with.Tie as tie
 
 sets-into-requires : tie.Need-sets-into-requires
-sets-into-requires c κs = search needs
+sets-into-requires c κs =
+    let s = c .before .before .before .before .before .before .before .before .before .before .before .before .before .before .before in (s .pre .0 .0, (s .pre .1 .0, s .pre .1 .1, omega (arith, s .pre .1 .2), s .pre .1 .4 .cubes))
 
 add-b : tie.Need-add-b
-add-b c = search needs
+add-b c =
+    let s = c .before .before .before .before .before .before .before .before .before .before .before .before .before .before .before .before .before .before .before .before in
+    let o = c .before .before .before .before .sets-into in
+    search (needs, part-size (s .pre .1 .4) (o .result .required) (o .last .1 .1 .1 .1 .1 .1 .0) (required-length (o .ensures .2)) (omega (arith, o .ensures .1, o .kept .1 .1 .1 .1 .1 .1 .0)), s .pre .0 .1)
 
 sub-columns-into : tie.Need-sub-columns-into
 sub-columns-into c = search needs
@@ -26,10 +29,7 @@ part-columns-into-end : tie.Need-part-columns-into-end
 part-columns-into-end c = search needs
 
 columns-into-requires : tie.Need-columns-into-requires
-columns-into-requires c κs =
-    let s = c .before .before .before .before .before .before .before .before .before .before .before .before .before .before .before .before .before .before .before .before .before .before .before .before .before in
-    let o = c .before .before .before .before .before .before .before .before .before .sets-into in
-    (s .pre .0 .0 .small, omega (arith, length-take (o .result .privileged - 0) (o .last .1 .1 .1 .1 .0), o .ensures .0, s .pre .1 .1), s .pre .1 .2)
+columns-into-requires c κs = search needs
 
 sub-blocks-into : tie.Need-sub-blocks-into
 sub-blocks-into c = search needs
@@ -42,9 +42,9 @@ part-blocks-into-end c = search needs
 
 blocks-into-requires : tie.Need-blocks-into-requires
 blocks-into-requires c κs =
-    let s = c .before .before .before .before .before .before .before .before .before .before .before .before .before .before .before .before .before .before .before .before .before .before .before .before .before .before .before .before .before .before .before in
-    let o = c .before .before .before .before .before .before .before .before .before .before .before .before .before .before .before .sets-into in
-    (required-fits (parts (o .ensures .2)) (s .pre .0 .1), s .pre .0 .0 .small, s .pre .1 .4 .whole)
+    let s = c .before .before .before .before .before .before .before .before .before .before .before .before .before .before .before .before .before .before .before .before .before .before .before .before .before .before .before .before .before in
+    let o = c .before .before .before .before .before .before .before .before .before .before .before .before .before .sets-into in
+    (required-fits (parts (o .ensures .2)) (s .pre .0 .1), s .pre .0 .0 .small, s .pre .1 .5 .whole)
 
 sub-select : tie.Need-sub-select
 sub-select c = search needs
@@ -72,9 +72,9 @@ part-select-start-3 c = search needs
 
 part-select-end-3 : tie.Need-part-select-end-3
 part-select-end-3 c =
-    let s = c .before .before .before .before .before .before .before .before .before .before .before .before .before .before .before .before .before .before .before .before .before .before .before .before .before .before .before .before .before .before .before .before .before .before .before .before .before .before .before .before .before in
-    let o = c .before .before .before .before .before .before .before .before .before .before .before .before .before .before .before .before .before .before .before .before .before .before .before .before .before .sets-into in
-    sets-low (o .result .required) (s .pre .1 .4) (part-size (s .pre .1 .3) (o .result .required) (o .last .1 .1 .1 .1 .1 .0) (required-length (o .ensures .2)) (omega (arith, o .ensures .1, o .kept .1 .1 .1 .1 .1 .0)))
+    let s = c .before .before .before .before .before .before .before .before .before .before .before .before .before .before .before .before .before .before .before .before .before .before .before .before .before .before .before .before .before .before .before .before .before .before .before .before .before .before in
+    let o = c .before .before .before .before .before .before .before .before .before .before .before .before .before .before .before .before .before .before .before .before .before .before .sets-into in
+    sets-low (o .result .required) (s .pre .1 .5) (part-size (s .pre .1 .4) (o .result .required) (o .last .1 .1 .1 .1 .1 .1 .0) (required-length (o .ensures .2)) (omega (arith, o .ensures .1, o .kept .1 .1 .1 .1 .1 .1 .0)))
 
 sub-select-4 : tie.Need-sub-select-4
 sub-select-4 c = search needs
@@ -84,9 +84,9 @@ part-select-start-4 c = search needs
 
 part-select-end-4 : tie.Need-part-select-end-4
 part-select-end-4 c =
-    let s = c .before .before .before .before .before .before .before .before .before .before .before .before .before .before .before .before .before .before .before .before .before .before .before .before .before .before .before .before .before .before .before .before .before .before .before .before .before .before .before .before .before .before in
-    let o = c .before .before .before .before .before .before .before .before .before .before .before .before .before .before .before .before .before .before .before .before .before .before .before .before .before .before .sets-into in
-    omega (arith, s .pre .1 .4 .same, sets-low (o .result .required) (s .pre .1 .4) (part-size (s .pre .1 .3) (o .result .required) (o .last .1 .1 .1 .1 .1 .0) (required-length (o .ensures .2)) (omega (arith, o .ensures .1, o .kept .1 .1 .1 .1 .1 .0))))
+    let s = c .before .before .before .before .before .before .before .before .before .before .before .before .before .before .before .before .before .before .before .before .before .before .before .before .before .before .before .before .before .before .before .before .before .before .before .before .before .before .before in
+    let o = c .before .before .before .before .before .before .before .before .before .before .before .before .before .before .before .before .before .before .before .before .before .before .before .sets-into in
+    omega (arith, s .pre .1 .5 .same, sets-low (o .result .required) (s .pre .1 .5) (part-size (s .pre .1 .4) (o .result .required) (o .last .1 .1 .1 .1 .1 .1 .0) (required-length (o .ensures .2)) (omega (arith, o .ensures .1, o .kept .1 .1 .1 .1 .1 .1 .0))))
 
 sub-select-5 : tie.Need-sub-select-5
 sub-select-5 c = search needs
@@ -96,33 +96,33 @@ part-select-start-5 c = search needs
 
 part-select-end-5 : tie.Need-part-select-end-5
 part-select-end-5 c =
-    let s = c .before .before .before .before .before .before .before .before .before .before .before .before .before .before .before .before .before .before .before .before .before .before .before .before .before .before .before .before .before .before .before .before .before .before .before .before .before .before .before .before .before .before .before in
-    let o = c .before .before .before .before .before .before .before .before .before .before .before .before .before .before .before .before .before .before .before .before .before .before .before .before .before .before .before .sets-into in
-    part-low (s .pre .1 .3) (o .result .required) (o .last .1 .1 .1 .1 .1 .0) (required-length (o .ensures .2)) (omega (arith, o .ensures .1, o .kept .1 .1 .1 .1 .1 .0))
+    let s = c .before .before .before .before .before .before .before .before .before .before .before .before .before .before .before .before .before .before .before .before .before .before .before .before .before .before .before .before .before .before .before .before .before .before .before .before .before .before .before .before in
+    let o = c .before .before .before .before .before .before .before .before .before .before .before .before .before .before .before .before .before .before .before .before .before .before .before .before .sets-into in
+    part-low (s .pre .1 .4) (o .result .required) (o .last .1 .1 .1 .1 .1 .1 .0) (required-length (o .ensures .2)) (omega (arith, o .ensures .1, o .kept .1 .1 .1 .1 .1 .1 .0))
 
 select-requires : tie.Need-select-requires
 select-requires c κs =
-    let s = c .before .before .before .before .before .before .before .before .before .before .before .before .before .before .before .before .before .before .before .before .before .before .before .before .before .before .before .before .before .before .before .before .before .before .before .before .before .before .before .before .before .before .before .before .before .before in
-    let o = c .before .before .before .before .before .before .before .before .before .before .before .before .before .before .before .before .before .before .before .before .before .before .before .before .before .before .before .before .before .before .sets-into in
+    let s = c .before .before .before .before .before .before .before .before .before .before .before .before .before .before .before .before .before .before .before .before .before .before .before .before .before .before .before .before .before .before .before .before .before .before .before .before .before .before .before .before .before .before .before in
+    let o = c .before .before .before .before .before .before .before .before .before .before .before .before .before .before .before .before .before .before .before .before .before .before .before .before .before .before .before .sets-into in
     let h = parts (o .ensures .2) in
     let r = o .result .required - 0 in
-    let l : r ≤ length (o .last .1 .1 .1 .1 .1 .0) = omega (arith, o .ensures .1, o .kept .1 .1 .1 .1 .1 .0) in
+    let l : r ≤ length (o .last .1 .1 .1 .1 .1 .1 .0) = omega (arith, o .ensures .1, o .kept .1 .1 .1 .1 .1 .1 .0) in
     let e = required-length h in (
-      (off-ready (s .pre .0 .0 .small) (o .kept .1 .1 .1 .0 ∙ s .pre .1 .0), c .before .before .before .before .before .before .before .before .before .before .before .before .before .before .before .before .before .before .before .before .columns-into .ensures, required-fits h (s .pre .0 .1), part-notes (s .pre .1 .3) r (o .last .1 .1 .1 .1 .1 .0) e l, part-places (s .pre .1 .3) r (o .last .1 .1 .1 .1 .1 .0) e l, required-room h (s .pre .0 .2)),
-      (let z = sets-part (o .result .required) _ (s .pre .1 .4) (part-size (s .pre .1 .3) (o .result .required) (o .last .1 .1 .1 .1 .1 .0) (required-length (o .ensures .2)) (omega (arith, o .ensures .1, o .kept .1 .1 .1 .1 .1 .0))) e in (c .before .before .before .before .before .before .before .before .before .before .before .before .before .before .blocks-into .ensures, z .0, z .1, z .2), (h .clean, part-clear (s .pre .1 .3) r (o .last .1 .1 .1 .1 .1 .0) e l)),
+      (off-ready (s .pre .0 .0 .small) (s .pre .1 .0 .long), c .before .before .before .before .before .before .before .before .before .before .before .before .before .before .before .before .before .before .before .columns-into .ensures, required-fits h (s .pre .0 .1), part-notes (s .pre .1 .4) r (o .last .1 .1 .1 .1 .1 .1 .0) e l, part-places (s .pre .1 .4) r (o .last .1 .1 .1 .1 .1 .1 .0) e l, required-room h (s .pre .0 .2)),
+      (let z = sets-part (o .result .required) _ (s .pre .1 .5) (part-size (s .pre .1 .4) (o .result .required) (o .last .1 .1 .1 .1 .1 .1 .0) (required-length (o .ensures .2)) (omega (arith, o .ensures .1, o .kept .1 .1 .1 .1 .1 .1 .0))) e in (c .before .before .before .before .before .before .before .before .before .before .before .before .before .blocks-into .ensures, z .0, z .1, z .2), (h .clean, part-clear (s .pre .1 .4) r (o .last .1 .1 .1 .1 .1 .1 .0) e l)),
     )
 
 same-length : tie.Need-same-length
-same-length c = c .before .before .before .before .before .before .before .before .before .before .before .before .before .before .before .before .before .before .before .before .before .before .before .before .before .before .before .before .before .before .before .before .before .before .before .before .before .before .before .before .before .sets-into .kept .1 .1 .1 .0
+same-length c = c .before .before .before .before .before .before .before .before .before .before .before .before .before .before .before .before .before .before .before .before .before .before .before .before .before .before .before .before .before .before .before .before .before .before .before .before .before .before .sets-into .kept .1 .1 .1 .1 .1 .0
 
 same-length-2 : tie.Need-same-length-2
-same-length-2 c = c .before .before .before .before .before .before .before .before .before .before .before .before .before .before .before .before .before .before .before .before .before .before .before .before .before .before .before .before .before .before .before .before .before .before .before .before .before .before .before .before .before .sets-into .kept .1 .1 .1 .1 .0
+same-length-2 c = search needs
 
 same-length-3 : tie.Need-same-length-3
-same-length-3 c = search needs
+same-length-3 c = c .before .before .before .before .before .before .before .before .before .before .before .before .before .before .before .before .before .before .before .before .before .before .before .before .before .before .before .before .before .before .before .before .before .before .before .before .before .before .sets-into .kept .1 .1 .1 .1 .1 .1 .0
 
 same-length-4 : tie.Need-same-length-4
-same-length-4 c = c .before .before .before .before .before .before .before .before .before .before .before .before .before .before .before .before .before .before .before .before .before .before .before .before .before .before .before .before .before .before .before .before .before .before .before .before .before .before .before .before .before .sets-into .kept .1 .1 .1 .1 .1 .0
+same-length-4 c = search needs
 
 same-length-5 : tie.Need-same-length-5
 same-length-5 c = search needs
@@ -139,11 +139,8 @@ same-length-8 c = search needs
 same-length-9 : tie.Need-same-length-9
 same-length-9 c = search needs
 
-same-length-10 : tie.Need-same-length-10
-same-length-10 c = search needs
-
 returns : tie.Need-returns
-returns c = answered-sets (parts (c .before .before .before .before .before .before .before .before .before .before .before .before .before .before .before .before .before .before .before .before .before .before .before .before .before .before .before .before .before .before .before .before .before .before .before .before .before .before .before .before .before .sets-into .ensures .2)) (c .before .before .before .before .before .before .before .before .before .before .select .ensures)
+returns c = answered-sets (parts (c .before .before .before .before .before .before .before .before .before .before .before .before .before .before .before .before .before .before .before .before .before .before .before .before .before .before .before .before .before .before .before .before .before .before .before .before .before .before .sets-into .ensures .2)) (c .before .before .before .before .before .before .before .before .before .before .select .ensures)
 
 pub cover-with-spec : {M : Type 1} → statement M
 cover-with-spec =
@@ -184,5 +181,4 @@ cover-with-spec =
     same-length-7
     same-length-8
     same-length-9
-    same-length-10
     returns)

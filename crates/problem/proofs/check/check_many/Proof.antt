@@ -1,4 +1,5 @@
-use mathlib.Core.Path.{_∙_}
+use mathlib.Core.Path.{sym, ap, _∙_}
+use mathlib.Core.Option.{some}
 use native.Mathlib.Omega.{arith}
 use lib.Dec.{ltb, lt→ltb, ltb→lt}
 use lib.ListN.{length}
@@ -11,20 +12,20 @@ use Rattle.problem.proofs.check.check_many.Tie as tie
 count-by-requires : tie.Need-count-by-requires
 count-by-requires c κs = search needs
 
-refused-requires : tie.Need-refused-requires
-refused-requires c κs = search needs
+refuse-requires : tie.Need-refuse-requires
+refuse-requires c κs = search needs
 
 returns : tie.Need-returns
 returns c =
     let a = c .before .before .before .before .before .before .args in
     let m = length (required (a .n) (a .table .now) (a .transitions .now)) in
-    c .refused .ensures ∙ refuse-yes (ltb 2048 m) 8 (lt→ltb 2048 m (omega (arith, c .before .before .count-by .ensures, c .before .if1 .taken)))
+    sym (ap some (c .refuse .ensures) ∙ refuse-yes (ltb 2048 m) 8 (lt→ltb 2048 m (omega (arith, c .before .before .count-by .ensures, c .before .if1 .taken))))
 
 returns-2 : tie.Need-returns-2
 returns-2 c =
     let a = c .before .before .before .before .before .args in
     let m = length (required (a .n) (a .table .now) (a .transitions .now)) in
-    refuse-no (ltb 2048 m) 8 (λ t. omega (arith, ltb→lt 2048 m t, c .before .count-by .ensures, c .if1 .left))
+    (sym (refuse-no (ltb 2048 m) 8 (λ t. omega (arith, ltb→lt 2048 m t, c .before .count-by .ensures, c .if1 .left))), c .before .count-by .ensures)
 
 pub check-many-spec : {M : Type 1} → statement M
-check-many-spec = tie.close (tie.spec count-by-requires refused-requires returns returns-2)
+check-many-spec = tie.close (tie.spec count-by-requires refuse-requires returns returns-2)

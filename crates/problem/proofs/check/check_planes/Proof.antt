@@ -1,6 +1,8 @@
+use mathlib.Core.Path.{_∙_}
 use mathlib.Core.List.{[], _∷_}
 use Rattle.hazard.specs.Refusal.{rulesCheck, manyCheck}
-use Rattle.problem.proofs.Checks.{first-refused, first-passed, only}
+use Rattle.hazard.proofs.Search.{firstOf-one}
+use Rattle.problem.proofs.Checks.{first-refused, first-passed, counted-as}
 use borrow.Author.Needs.{needs}
 use Rattle.problem.proofs.check.check_planes.Statement.{statement}
 use Rattle.problem.proofs.check.check_planes.Tie as tie
@@ -30,7 +32,7 @@ returns-2 c =
     let a = c .before .before .before .before .before .before .before .before .before .before .before .before .args in
     let l = manyCheck (a .n) (a .table .now) (a .transitions .now) ∷ [] in
     first-passed (c .before .before .before .before .before .before .check-points .ensures) (c .before .before .before .before .enum-told .given .1) (rulesCheck (a .n) (a .table .now) (a .transitions .now) ∷ l)
-    (first-refused (c .before .before .before .check-points2 .ensures) (c .before .r2 .given .1) l)
+    ∙ first-refused (c .before .before .before .check-points2 .ensures) (c .before .r2 .given .1) l
 
 enum-told-2 : tie.Need-enum-told-2
 enum-told-2 c = search needs
@@ -41,9 +43,9 @@ check-many-requires c κs = search needs
 returns-3 : tie.Need-returns-3
 returns-3 c =
     let a = c .before .before .before .before .before .before .before .before .before .before .before .before .args in
-    let l = manyCheck (a .n) (a .table .now) (a .transitions .now) ∷ [] in
-    first-passed (c .before .before .before .before .before .before .check-points .ensures) (c .before .before .before .before .enum-told .given .1) (rulesCheck (a .n) (a .table .now) (a .transitions .now) ∷ l)
-    (first-passed (c .before .before .before .check-points2 .ensures) (c .before .enum-told2 .given .1) l (only (c .check-many .ensures)))
+    let many = manyCheck (a .n) (a .table .now) (a .transitions .now) in
+    counted-as (a .n) (a .table .now) (a .transitions .now) (c .check-many .result) (first-passed (c .before .before .before .before .before .before .check-points .ensures) (c .before .before .before .before .enum-told .given .1) (rulesCheck (a .n) (a .table .now) (a .transitions .now) ∷ many ∷ [])
+    ∙ first-passed (c .before .before .before .check-points2 .ensures) (c .before .enum-told2 .given .1) (many ∷ []) ∙ firstOf-one many) (c .check-many .ensures)
 
 pub check-planes-spec : {M : Type 1} → statement M
 check-planes-spec =

@@ -1,54 +1,48 @@
-use mathlib.Core.Path.{refl}
-use Rattle.problem.proofs.Checks.{ready-few}
+use Rattle.problem.specs.Answer.{senseChecks}
+use Rattle.hazard.specs.Search.{firstOf}
+use Rattle.problem.proofs.Checks.{ready-few, answer-filled}
 use borrow.Author.Needs.{needs}
 use Rattle.problem.proofs.check.check_sense.Statement.{statement}
 use Rattle.problem.proofs.check.check_sense.Tie as tie
 
-slice-aggregate-plane-into : tie.Need-slice-aggregate-plane-into
-slice-aggregate-plane-into c = search needs
-
 plane-into-requires : tie.Need-plane-into-requires
-plane-into-requires c κs = (ready-few (c .before .before .before .pre), refl)
-
-slice-aggregate-plane-into-2 : tie.Need-slice-aggregate-plane-into-2
-slice-aggregate-plane-into-2 c = search needs
+plane-into-requires c κs =
+    let s = c .before .before .before .before .before .before in (ready-few (s .pre .0), s .pre .1 .0)
 
 plane-into-requires-2 : tie.Need-plane-into-requires-2
-plane-into-requires-2 c κs = (ready-few (c .before .before .before .before .before .before .pre), refl)
-
-slice-aggregate-plane-into-3 : tie.Need-slice-aggregate-plane-into-3
-slice-aggregate-plane-into-3 c = search needs
+plane-into-requires-2 c κs =
+    let s = c .before .before .before .before .before .before .before .before .before .before in (ready-few (s .pre .0), s .pre .1 .1)
 
 plane-into-requires-3 : tie.Need-plane-into-requires-3
-plane-into-requires-3 c κs = (ready-few (c .before .before .before .before .before .before .before .before .before .pre), refl)
-
-slice-aggregate-check-planes : tie.Need-slice-aggregate-check-planes
-slice-aggregate-check-planes c = search needs
-
-slice-aggregate-check-planes-2 : tie.Need-slice-aggregate-check-planes-2
-slice-aggregate-check-planes-2 c = search needs
-
-slice-aggregate-check-planes-3 : tie.Need-slice-aggregate-check-planes-3
-slice-aggregate-check-planes-3 c = search needs
+plane-into-requires-3 c κs =
+    let s = c .before .before .before .before .before .before .before .before .before .before .before .before .before .before in (ready-few (s .pre .0), s .pre .1 .2)
 
 check-planes-requires : tie.Need-check-planes-requires
 check-planes-requires c κs = search needs
 
+same-length : tie.Need-same-length
+same-length c = search needs
+
+same-length-2 : tie.Need-same-length-2
+same-length-2 c = search needs
+
+same-length-3 : tie.Need-same-length-3
+same-length-3 c = search needs
+
 returns : tie.Need-returns
-returns c = search needs
+returns c =
+    let a = c .before .before .before .before .before .before .before .before .before .before .before .before .before .before .before .before .before .before .before .before .before .args in
+    answer-filled (firstOf (senseChecks (a .n) (a .table .now) (a .transitions .now))) (a .n) (a .table .now) (a .transitions .now) _ _ (c .before .before .before .before .before .before .before .before .before .before .before .before .before .before .plane-into .ensures) (c .before .before .before .before .before .before .before .before .before .before .plane-into2 .ensures) (c .check-planes .result) (c .check-planes .ensures)
 
 pub check-sense-spec : {M : Type 1} → statement M
 check-sense-spec =
     tie.close
     (tie.spec
-    slice-aggregate-plane-into
     plane-into-requires
-    slice-aggregate-plane-into-2
     plane-into-requires-2
-    slice-aggregate-plane-into-3
     plane-into-requires-3
-    slice-aggregate-check-planes
-    slice-aggregate-check-planes-2
-    slice-aggregate-check-planes-3
     check-planes-requires
+    same-length
+    same-length-2
+    same-length-3
     returns)

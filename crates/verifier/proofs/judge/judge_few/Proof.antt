@@ -1,3 +1,5 @@
+use native.Mathlib.Omega.{arith}
+use mathlib.Core.Path.{refl}
 use borrow.Author.Needs.{needs}
 use Rattle.verifier.proofs.judge.judge_few.Statement.{statement}
 use Rattle.verifier.proofs.judge.judge_few.Tie as tie
@@ -20,11 +22,10 @@ slice-aggregate-judge-with-5 c = search needs
 slice-aggregate-judge-with-6 : tie.Need-slice-aggregate-judge-with-6
 slice-aggregate-judge-with-6 c = search needs
 
-slice-aggregate-judge-with-7 : tie.Need-slice-aggregate-judge-with-7
-slice-aggregate-judge-with-7 c = search needs
-
 judge-with-requires : tie.Need-judge-with-requires
-judge-with-requires c κs = (search needs, (search needs, search needs))
+judge-with-requires c κs =
+    let s = c .before .before .before .before .before .before .before .before .before .before .before in
+    ((s .pre .0 .0, omega (arith, s .pre .0 .1), s .pre .0 .2), ((s .pre .1 .0, s .pre .1 .1, refl, s .pre .0 .1, s .pre .0 .3), search needs))
 
 returns : tie.Need-returns
 returns c = search needs
@@ -39,6 +40,5 @@ judge-few-spec =
     slice-aggregate-judge-with-4
     slice-aggregate-judge-with-5
     slice-aggregate-judge-with-6
-    slice-aggregate-judge-with-7
     judge-with-requires
     returns)

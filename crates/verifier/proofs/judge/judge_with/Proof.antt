@@ -1,14 +1,14 @@
-use mathlib.Core.Path.{_∙_}
 use native.Mathlib.Omega.{arith}
-use borrow.Author.Needs.{needs}
 use Rattle.problem.proofs.Parts.{parts}
 use Rattle.expand.proofs.Ready.{off-ready}
 use Rattle.verifier.proofs.Judging.{part-few, read-size, read-few, read-clean, rows-enough, judged}
+use borrow.Author.Needs.{needs}
 use Rattle.verifier.proofs.judge.judge_with.Statement.{statement}
 use Rattle.verifier.proofs.judge.judge_with.Tie as tie
 
 sets-into-requires : tie.Need-sets-into-requires
-sets-into-requires c κs = search needs
+sets-into-requires c κs =
+    let s = c .before .before .before .before .before .before .before .before .before .before .before .before .before in (s .pre .0 .0, (s .pre .1 .0 .0, s .pre .1 .0 .1, omega (arith, s .pre .1 .0 .2), s .pre .1 .0 .3))
 
 read-network-requires : tie.Need-read-network-requires
 read-network-requires c κs = search needs
@@ -24,9 +24,9 @@ part-columns-into-end c = search needs
 
 columns-into-requires : tie.Need-columns-into-requires
 columns-into-requires c κs =
-    let s = c .before .before .before .before .before .before .before .before .before .before .before .before .before .before .before .before .before .before .before .before .before .before .before .before .before .before .before in
-    let o = c .before .before .before .before .before .before .before .before .before .before .before .before .before .sets-into in
-    let few = part-few (o .last .1 .1 .1 .1 .0) 64 (omega (arith, o .kept .1 .1 .1 .1 .0, s .pre .1 .0 .1)) in
+    let s = c .before .before .before .before .before .before .before .before .before .before .before .before .before .before .before .before .before .before .before .before .before .before .before .before .before in
+    let o = c .before .before .before .before .before .before .before .before .before .before .before .sets-into in
+    let few = part-few (o .last .1 .1 .1 .1 .1 .0) 64 (omega (arith, o .kept .1 .1 .1 .1 .1 .0, s .pre .1 .0 .2)) in
     (s .pre .0 .2 .small, search (needs, few), s .pre .1 .1 .0)
 
 sub-blocks-into : tie.Need-sub-blocks-into
@@ -40,12 +40,12 @@ part-blocks-into-end c = search needs
 
 blocks-into-requires : tie.Need-blocks-into-requires
 blocks-into-requires c κs =
-    let s = c .before .before .before .before .before .before .before .before .before .before .before .before .before .before .before .before .before .before .before .before .before .before .before .before .before .before .before .before .before .before .before .before .before in
+    let s = c .before .before .before .before .before .before .before .before .before .before .before .before .before .before .before .before .before .before .before .before .before .before .before .before .before .before .before .before .before .before .before in
     (read-few (c .before .before .before .before .before .before .before .before .before .before .before .read-network .ensures) (s .pre .0 .2), s .pre .0 .2 .small, s .pre .1 .1 .1)
 
 add-b : tie.Need-add-b
 add-b c =
-    let s = c .before .before .before .before .before .before .before .before .before .before .before .before .before .before .before .before .before .before .before .before .before .before .before .before .before .before .before .before .before .before .before .before .before .before .before .before .pre .0 .2 in
+    let s = c .before .before .before .before .before .before .before .before .before .before .before .before .before .before .before .before .before .before .before .before .before .before .before .before .before .before .before .before .before .before .before .before .before .before .pre .0 .2 in
     search (needs, read-size (c .before .before .before .before .before .before .before .before .before .before .before .before .before .before .read-network .ensures), s .few)
 
 sub-first-fault : tie.Need-sub-first-fault
@@ -83,25 +83,24 @@ part-first-fault-start-4 c = search needs
 
 part-first-fault-end-4 : tie.Need-part-first-fault-end-4
 part-first-fault-end-4 c =
-    let s = c .before .before .before .before .before .before .before .before .before .before .before .before .before .before .before .before .before .before .before .before .before .before .before .before .before .before .before .before .before .before .before .before .before .before .before .before .before .before .before .before .before .before .before .before .before in
-    search (needs, read-size (c .before .before .before .before .before .before .before .before .before .before .before .before .before .before .before .before .before .before .before .before .before .before .before .read-network .ensures), s .pre .1 .1 .3)
+    let s = c .before .before .before .before .before .before .before .before .before .before .before .before .before .before .before .before .before .before .before .before .before .before .before .before .before .before .before .before .before .before .before .before .before .before .before .before .before .before .before .before .before .before in
+    search (needs, read-size (c .before .before .before .before .before .before .before .before .before .before .before .before .before .before .before .before .before .before .before .before .before .before .read-network .ensures), s .pre .1 .1 .3)
 
 first-fault-requires : tie.Need-first-fault-requires
 first-fault-requires c κs =
-    let s = c .before .before .before .before .before .before .before .before .before .before .before .before .before .before .before .before .before .before .before .before .before .before .before .before .before .before .before .before .before .before .before .before .before .before .before .before .before .before .before .before .before .before .before .before .before .before in
-    let o = c .before .before .before .before .before .before .before .before .before .before .before .before .before .before .before .before .before .before .before .before .before .before .before .before .before .before .before .before .before .before .before .before .sets-into in
-    let r = c .before .before .before .before .before .before .before .before .before .before .before .before .before .before .before .before .before .before .before .before .before .before .before .before .read-network .ensures in
+    let s = c .before .before .before .before .before .before .before .before .before .before .before .before .before .before .before .before .before .before .before .before .before .before .before .before .before .before .before .before .before .before .before .before .before .before .before .before .before .before .before .before .before .before .before in
+    let r = c .before .before .before .before .before .before .before .before .before .before .before .before .before .before .before .before .before .before .before .before .before .before .before .read-network .ensures in
     let rows = s .args .rows .now in
     let few = part-few rows 32 (s .pre .1 .1 .2) in (
-      (off-ready (s .pre .0 .2 .small) (o .kept .1 .1 .1 .0 ∙ s .pre .1 .0 .0), c .before .before .before .before .before .before .before .before .before .before .before .before .before .before .before .before .before .before .columns-into .ensures, read-few r (s .pre .0 .2)),
-      (read-clean r, (search few, rows-enough r rows (s .pre .1 .1 .3), c .before .before .before .before .before .before .before .before .before .before .before .before .blocks-into .ensures)),
+      (off-ready (s .pre .0 .2 .small) (s .pre .1 .0 .0 .long), c .before .before .before .before .before .before .before .before .before .before .before .before .before .before .before .before .before .columns-into .ensures, read-few r (s .pre .0 .2)),
+      (read-clean r, (search few, rows-enough r rows (s .pre .1 .1 .3), c .before .before .before .before .before .before .before .before .before .before .before .blocks-into .ensures)),
     )
 
 same-length : tie.Need-same-length
-same-length c = c .before .before .before .before .before .before .before .before .before .before .before .before .before .before .before .before .before .before .before .before .before .before .before .before .before .before .before .before .before .before .before .before .before .before .before .sets-into .kept .1 .1 .1 .0
+same-length c = search needs
 
 same-length-2 : tie.Need-same-length-2
-same-length-2 c = c .before .before .before .before .before .before .before .before .before .before .before .before .before .before .before .before .before .before .before .before .before .before .before .before .before .before .before .before .before .before .before .before .before .before .before .sets-into .kept .1 .1 .1 .1 .0
+same-length-2 c = search needs
 
 same-length-3 : tie.Need-same-length-3
 same-length-3 c = search needs
@@ -115,11 +114,8 @@ same-length-5 c = search needs
 same-length-6 : tie.Need-same-length-6
 same-length-6 c = search needs
 
-same-length-7 : tie.Need-same-length-7
-same-length-7 c = search needs
-
 returns : tie.Need-returns
-returns c = judged (parts (c .before .before .before .before .before .before .before .before .before .before .before .before .before .before .before .before .before .before .before .before .before .before .before .before .before .before .before .before .before .before .before .before .before .before .before .sets-into .ensures .2)) (c .before .before .before .before .before .before .before .before .before .before .before .before .before .before .before .before .before .before .before .before .before .before .before .before .before .before .before .read-network .ensures) (c .before .before .first-fault .ensures)
+returns c = judged (parts (c .before .before .before .before .before .before .before .before .before .before .before .before .before .before .before .before .before .before .before .before .before .before .before .before .before .before .before .before .before .before .before .before .sets-into .ensures .2)) (c .before .before .before .before .before .before .before .before .before .before .before .before .before .before .before .before .before .before .before .before .before .before .before .before .before .before .read-network .ensures) (c .before .before .first-fault .ensures)
 
 pub judge-with-spec : {M : Type 1} → statement M
 judge-with-spec =
@@ -155,5 +151,4 @@ judge-with-spec =
     same-length-4
     same-length-5
     same-length-6
-    same-length-7
     returns)

@@ -1,10 +1,20 @@
 use denote.Ref.{now}
+use Rattle.hazard.specs.Search.{firstOf}
+use Rattle.hazard.specs.Refusal.{inputChecks}
+use Rattle.problem.proofs.Checks.{answer-accepted, answer-refused}
+use Rattle.verifier.proofs.Verifying.{input-refused}
 use borrow.Author.Needs.{needs}
-use Rattle.hazard.proofs.Rules.{few-inputs, required-few}
-use Rattle.problem.proofs.Checks.{passed, refused-by, accepted-ready}
-use Rattle.verifier.proofs.Verifying.{input-refused, network-refused, network-sound, network-judged}
 use Rattle.verifier.proofs.verify.verify.Statement.{statement}
 use Rattle.verifier.proofs.verify.verify.Tie as tie
+
+slice-aggregate-check : tie.Need-slice-aggregate-check
+slice-aggregate-check c = search needs
+
+slice-aggregate-check-2 : tie.Need-slice-aggregate-check-2
+slice-aggregate-check-2 c = search needs
+
+slice-aggregate-check-3 : tie.Need-slice-aggregate-check-3
+slice-aggregate-check-3 c = search needs
 
 check-requires : tie.Need-check-requires
 check-requires c κs = search needs
@@ -12,57 +22,42 @@ check-requires c κs = search needs
 enum-known-r : tie.Need-enum-known-r
 enum-known-r c = search needs
 
+enum-known-count : tie.Need-enum-known-count
+enum-known-count c = search needs
+
+slice-aggregate-verify-network : tie.Need-slice-aggregate-verify-network
+slice-aggregate-verify-network c = search needs
+
+slice-aggregate-verify-network-2 : tie.Need-slice-aggregate-verify-network-2
+slice-aggregate-verify-network-2 c = search needs
+
+verify-network-requires : tie.Need-verify-network-requires
+verify-network-requires c κs =
+    let a = c .before .before .before .before .before .before .before .before .before .before .before .before .before .before .before .args in
+    let h = c .before .before .before .before .before .before .before .before .check in
+    answer-accepted (a .n) (now (a .table)) (now (a .transitions)) _ _ (h .result) (firstOf (inputChecks (a .n) (now (a .table)) (now (a .transitions)))) (h .ensures) (c .before .before .before .count .given .1)
+
 returns : tie.Need-returns
 returns c =
-    let a = c .before .before .before .before .before .before .before .args in
-    input-refused (a .n) (now (a .table)) (now (a .transitions)) (now (a .network)) (refused-by (c .before .before .before .check .ensures) (c .before .r .given .1))
-
-enum-told : tie.Need-enum-told
-enum-told c = search needs
-
-check-network-requires : tie.Need-check-network-requires
-check-network-requires c κs =
-    let a = c .before .before .before .before .before .before .args in
-    few-inputs (a .n) (now (a .table)) (now (a .transitions)) (passed (c .before .before .check .ensures) (c .enum-told .given .1))
-
-enum-known-r-2 : tie.Need-enum-known-r-2
-enum-known-r-2 c = search needs
+    let a = c .before .before .before .before .before .before .before .before .before .before .before .before .before .args in
+    let h = c .before .before .before .before .before .before .check in
+    input-refused (a .n) (now (a .table)) (now (a .transitions)) (now (a .network)) (answer-refused (a .n) (now (a .table)) (now (a .transitions)) _ _ (h .result) (firstOf (inputChecks (a .n) (now (a .table)) (now (a .transitions)))) (h .ensures) (c .before .r .given .1))
 
 returns-2 : tie.Need-returns-2
-returns-2 c =
-    let a = c .before .before .before .before .before .before .before .before .before .before .args in
-    let ok = passed (c .before .before .before .before .before .before .check .ensures) (c .before .before .before .before .enum-told .given .1) in
-    network-refused (a .n) (now (a .table)) (now (a .transitions)) (now (a .network)) ok (refused-by (c .before .before .before .check-network .ensures) (c .before .r2 .given .1))
-
-enum-told-2 : tie.Need-enum-told-2
-enum-told-2 c = search needs
-
-judge-requires : tie.Need-judge-requires
-judge-requires c κs =
-    let a = c .before .before .before .before .before .before .before .before .before .args in
-    let ok = passed (c .before .before .before .before .before .check .ensures) (c .before .before .before .enum-told .given .1) in (
-      accepted-ready (a .n) (now (a .table)) (now (a .transitions)) ok,
-      required-few (a .n) (now (a .table)) (now (a .transitions)) ok,
-      network-sound (a .n) (now (a .table)) (now (a .transitions)) (now (a .network)) ok (passed (c .before .before .check-network .ensures) (c .enum-told2 .given .1)),
-    )
-
-returns-3 : tie.Need-returns-3
-returns-3 c =
-    let a = c .before .before .before .before .before .before .before .before .before .before .args in
-    let ok = passed (c .before .before .before .before .before .before .check .ensures) (c .before .before .before .before .enum-told .given .1) in
-    network-judged (a .n) (now (a .table)) (now (a .transitions)) (now (a .network)) ok (passed (c .before .before .before .check-network .ensures) (c .before .enum-told2 .given .1)) (c .judge .ensures)
+returns-2 c = search needs
 
 pub verify-spec : {M : Type 1} → statement M
 verify-spec =
     tie.close
     (tie.spec
+    slice-aggregate-check
+    slice-aggregate-check-2
+    slice-aggregate-check-3
     check-requires
     enum-known-r
+    enum-known-count
+    slice-aggregate-verify-network
+    slice-aggregate-verify-network-2
+    verify-network-requires
     returns
-    enum-told
-    check-network-requires
-    enum-known-r-2
-    returns-2
-    enum-told-2
-    judge-requires
-    returns-3)
+    returns-2)
