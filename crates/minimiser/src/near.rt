@@ -38,5 +38,5 @@ pub(crate) fn near(n: usize, columns: &[u64], b: usize, c: Cube) -> u64
         high = high ^ carry;
         i += 1;
     }
-    u64::MAX ^ many
+    u64::MAX ^ (many | (low & high))
 }
