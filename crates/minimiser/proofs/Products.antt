@@ -1,14 +1,14 @@
 -- A product on its way to be chosen: a dhf-implicant around its required cube at each turn.
 use mathlib.Core.Path.{_≡_, refl, sym, ap, _∙_, subst}
 use mathlib.Core.Bool.{Bool, true, false, cond}
-use mathlib.Core.List.{List, map, List·Memᴰ, Memᴰ·of-map}
+use mathlib.Core.List.{List, map, Memᴰ·of-map}
 use Prim.Native.Nat.{ℕ, zero, suc, _/_, _%_, _≤_}
 use native.Mathlib.Omega.{arith}
 use lib.Dec.{T, eqb}
 use lib.Pow.{pow-pos}
 use Rattle.hazard.specs.Cube.{Cube, inside}
 use Rattle.hazard.specs.Sets.{Privileged}
-use Rattle.hazard.specs.Implicant.{dhfImplicant, DhfPrime}
+use Rattle.hazard.specs.Implicant.{dhfImplicant}
 use Rattle.hazard.specs.Growth.{Legal, grow}
 use Rattle.hazard.specs.Expansion.{expand, absorb}
 use Rattle.hazard.proofs.Cube.{Digits, nil, cons, Inside, →inside, inside→, inside-refl, inside-trans}

@@ -1,15 +1,14 @@
 -- The loop that writes a network's bytes.
-use mathlib.Core.Path.{_≡_, refl, sym, ap, ap₂, _∙_}
+use mathlib.Core.Path.{_≡_, refl, sym, ap, _∙_}
 use mathlib.Core.List.{List, [], _∷_, _++_, append-assoc, append-nil}
-use Prim.Native.Nat.{ℕ, zero, suc, _+_, _*_, _≤_, _<_}
-use native.Mathlib.Nat.{zero-mul, suc-mul, mul-le-mul-right, add-comm}
+use Prim.Native.Nat.{ℕ, _+_, _*_, _≤_, _<_}
+use native.Mathlib.Nat.{zero-mul, suc-mul, mul-le-mul-right}
 use native.Mathlib.Numerals.{add-one}
 use native.Mathlib.Omega.{arith}
-use lib.ListN.{length, getD, take, drop, length-append, length-drop}
-use lib.Seq.{take-suc, take-all, take-length, take-at, drop-append-add, drop-drop, paste, length-take-le}
+use lib.ListN.{length, getD, take, drop, length-append}
+use lib.Seq.{take-all, take-length, take-at, drop-append-add, drop-drop, paste, length-take-le}
 use Rattle.hazard.specs.Cover.{Network}
 use Rattle.hazard.specs.Minimal.{bytesOf}
-use Rattle.cube.specs.Mask.{digitsOf}
 use Rattle.cube.specs.Entry.{careIn, valueIn}
 use Rattle.cube.proofs.Digits.{length-digits}
 use Rattle.choice.specs.Network.{cubeIn, networkIn}

@@ -21,8 +21,8 @@ fn losing(columns: &[u64], b: usize, c: Cube, i: usize) -> u64
     zero | one
 }
 
-// The rows of block b that lose at most three literals: supercubes with the others mostly have a zero. The literals are counted for all 64
-// rows at once, in two bits each; `many` has those that lose more.
+// The rows of block b that lose at most two literals: supercubes with the others mostly have a zero. The literals are counted for all 64
+// rows at once, in two bits each; `many` has those that lose four and more.
 pub(crate) fn near(n: usize, columns: &[u64], b: usize, c: Cube) -> u64
     requires { ⌜ (n ≤ 10) × (length (now columns) ≡ 960) × (b < 32) ⌝ }
 {

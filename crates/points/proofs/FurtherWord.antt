@@ -1,7 +1,7 @@
 -- Moves of one input, bit by bit.
 use mathlib.Core.Path.{_≡_, refl, sym, ap, ap₂, _∙_, subst, subst⁻¹}
 use mathlib.Core.Logic.{_≢_}
-use mathlib.Core.Bool.{Bool, true, false, not, cond, _&&_}
+use mathlib.Core.Bool.{Bool, true, false, cond, _&&_}
 use mathlib.Core.List.{List}
 use Prim.Native.Nat.{ℕ, zero, suc, _+_, _-_, _*_, _/_, _%_, _^_, _<_}
 use native.Mathlib.Nat.{mod-lt, mod-eq-of-lt, one-mul, add-zero, add-comm, lt-of-le-of-lt}
@@ -12,7 +12,6 @@ use lib.Bits.{bitAnd, and-le-r}
 use lib.ListN.{getD}
 use lib.Pow.{pow-pos, pow-add, pow-lt, shr-shr}
 use borrow.Author.Tests.{eq-eqb, ne-eqb, eqb-true}
-use Rattle.hazard.specs.Search.{first}
 use Rattle.hazard.specs.Cube.{bit, flip}
 use Rattle.hazard.proofs.Test.{T-and}
 use Rattle.hazard.proofs.Point.{flip-up, flip-down, flip-lt}

@@ -1,5 +1,4 @@
 // The problem's sets, stored together.
-ghost use mathlib.Core.Path.{_≡_};
 ghost use Prim.Native.Nat.{_≤_};
 ghost use lib.ListN.{length};
 ghost use Rattle.hazard.specs.Sets as sets;

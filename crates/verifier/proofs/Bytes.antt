@@ -2,7 +2,7 @@
 use mathlib.Core.Path.{_≡_, refl, sym, ap, _∙_}
 use mathlib.Core.Bool.{Bool, true, false, not, _&&_}
 use mathlib.Core.List.{List, [], _∷_}
-use Prim.Native.Nat.{ℕ, zero, suc, _+_, _-_, _*_, _/_, _%_, _≤_, _<_}
+use Prim.Native.Nat.{ℕ, zero, suc, _+_, _-_, _*_, _/_, _≤_, _<_}
 use native.Mathlib.Nat.{not-suc-le-zero, le-of-suc-le-suc, sub-zero, sub-eq-zero-of-le, zero-mul, add-comm, suc-mul, mul-le-mul-right, div-add-mod', add-zero}
 use native.Mathlib.Numerals.{add-one}
 use native.Mathlib.Omega.{arith}
@@ -12,7 +12,7 @@ use lib.ListN.{length, getD, take, drop}
 use lib.Seq.{drop-cons, drop-drop, getD-take, getD-drop}
 use borrow.Author.Tests.{lt-leb, le-leb}
 use Rattle.hazard.specs.Cube.{isProduct}
-use Rattle.hazard.specs.Cover.{Network, productAt}
+use Rattle.hazard.specs.Cover.{productAt}
 use Rattle.hazard.specs.Search.{first}
 use Rattle.hazard.specs.Refusal.{Refusal}
 use Rattle.hazard.specs.Verdict.{cut, products, digitsCheck}

@@ -2,13 +2,12 @@
 ghost use mathlib.Core.Path.{_≡_};
 ghost use mathlib.Core.Bool.{not};
 ghost use mathlib.Core.List.{[], _∷_};
-ghost use Prim.Native.Nat.{ℕ, _+_, _*_, _/_, _≤_, _<_};
-ghost use lib.ListN.{length, getD, take, drop};
+ghost use Prim.Native.Nat.{_+_, _/_, _≤_, _<_};
+ghost use lib.ListN.{length, take, drop};
 ghost use Rattle.hazard.specs.Search.{firstOf};
 ghost use Rattle.hazard.specs.Cube.{isProduct};
 ghost use Rattle.hazard.specs.Verdict.{products, productsCheck, digitsCheck};
 ghost use Rattle.problem.specs.Answer.{refusalOf, checkedOf};
-ghost use Rattle.choice.specs.Network.{networkIn};
 ghost use Rattle.verifier.specs.Network.{misshapen, badProduct, Sound, Read};
 use cube::bytes::product_at;
 use cube::entry::pack;

@@ -1,8 +1,6 @@
-use Prim.Native.Nat.{_≤_, _*_}
 use Rattle.minimiser.proofs.Products.{product-cube}
 use mathlib.Core.Path.{_≡_, refl, sym, ap, _∙_, subst}
-use mathlib.Core.Bool.{Bool}
-use Prim.Native.Nat.{ℕ, _-_}
+use Prim.Native.Nat.{_-_}
 use native.Mathlib.Omega.{arith}
 use lib.Dec.{T}
 use lib.ListN.{length, getD, length-set}

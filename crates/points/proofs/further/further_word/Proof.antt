@@ -2,7 +2,6 @@ use native.Mathlib.Omega.{arith}
 use lib.Count.{trailing-le}
 use Rattle.cube.specs.PointSet.{inSet}
 use Rattle.points.proofs.Movement.{Moving, moving-start, moving-input, moving-less, moving-more, moving-end}
-use borrow.Author.Needs.{needs}
 use Rattle.points.proofs.further.further_word.Statement.{statement}
 use Rattle.points.proofs.further.further_word.Tie as tie
 

@@ -1,8 +1,8 @@
 use mathlib.Core.Path.{_≡_, refl, sym, ap, _∙_}
-use mathlib.Core.List.{List, map}
-use Prim.Native.Nat.{ℕ, _-_}
+use mathlib.Core.List.{map}
+use Prim.Native.Nat.{_-_}
 use native.Mathlib.Omega.{arith}
-use lib.ListN.{length, getD, length-map}
+use lib.ListN.{length}
 use borrow.Author.Needs.{needs}
 use mathlib.Core.Bool.{not}
 use Rattle.hazard.specs.Sets.{Required}

@@ -1,4 +1,4 @@
-use mathlib.Core.Path.{_≡_, sym, ap, _∙_}
+use mathlib.Core.Path.{_≡_, sym, _∙_}
 use Prim.Native.Nat.{_-_, _*_, _/_}
 use native.Mathlib.Nat.{zero-mul}
 use native.Mathlib.Omega.{arith}
