@@ -29,7 +29,10 @@ part-columns-into-end : tie.Need-part-columns-into-end
 part-columns-into-end c = search needs
 
 columns-into-requires : tie.Need-columns-into-requires
-columns-into-requires c κs = search needs
+columns-into-requires c κs =
+    let s = c .before .before .before .before .before .before .before .before .before .before .before .before .before .before .before .before .before .before .before .before .before .before .before in
+    let o = c .before .before .before .before .before .before .before .sets-into in
+    (s .pre .0 .0 .small, omega (arith, length-take (o .result .privileged - 0) (o .last .1 .1 .1 .1 .1 .0), o .ensures .0, s .pre .1 .2), s .pre .1 .3)
 
 sub-blocks-into : tie.Need-sub-blocks-into
 sub-blocks-into c = search needs
