@@ -2,7 +2,7 @@ use Rattle.minimiser.proofs.Answering.{required-length, required-fits, 
 use Rattle.minimiser.proofs.Rooms.{part-size, part-low, part-notes, part-places, part-clear, sets-low, sets-part}
 use Rattle.expand.proofs.Ready.{off-ready}
 use Rattle.problem.proofs.Parts.{parts}
-use lib.ListN.{length}
+use lib.ListN.{length, length-take}
 use native.Mathlib.Omega.{arith}
 use Prim.Native.Nat.{_-_, _≤_}
 use borrow.Author.Needs.{needs}
