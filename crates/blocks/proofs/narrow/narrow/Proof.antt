@@ -1,8 +1,7 @@
-use Prim.Native.Nat.{ℕ, _+_, _*_, _≤_}
 use mathlib.Core.Path.{_≡_, ap}
-use Prim.Native.Nat.{_-_}
+use Prim.Native.Nat.{ℕ, _+_, _-_, _*_, _≤_}
 use native.Mathlib.Omega.{arith}
-use Rattle.blocks.proofs.Narrowing.{Narrowing, narrowing-start, narrowing-step}
+use Rattle.blocks.proofs.Narrowing.{Narrowing, narrowing-start, narrowing-step, partner-low}
 use borrow.Author.Needs.{needs}
 use Rattle.blocks.proofs.narrow.narrow.Statement.{statement}
 use Rattle.blocks.proofs.narrow.narrow.Tie as tie
@@ -16,6 +15,9 @@ abbrev μ-loop : tie.MeasureT-loop
 loop-holds : tie.Need-loop-holds Inv-loop μ-loop
 loop-holds c = (omega arith, narrowing-start _ _ _)
 
+partner-requires : tie.Need-partner-requires Inv-loop μ-loop
+partner-requires c κs = search needs
+
 mul-at : tie.Need-mul-at Inv-loop μ-loop
 mul-at c = search needs
 
@@ -28,23 +30,40 @@ add-at c = search needs
 mul-at-2 : tie.Need-mul-at-2 Inv-loop μ-loop
 mul-at-2 c = search needs
 
+mul-also : tie.Need-mul-also Inv-loop μ-loop
+mul-also c = let l = c .before .before .before .loop in record { fits = omega (arith, partner-low (l .i) (c .before .before .before .before .before .before .args .n) (c .before .before .loop-test .taken) (c .before .partner .ensures), c .before .before .before .before .before .before .pre .0) }
+
+digit-at-requires-2 : tie.Need-digit-at-requires-2 Inv-loop μ-loop
+digit-at-requires-2 c κs = let l = c .before .before .before .loop in omega (arith, partner-low (l .i) (c .before .before .before .before .before .before .args .n) (c .before .before .loop-test .taken) (c .before .partner .ensures), c .before .before .before .before .before .before .pre .0)
+
+add-also : tie.Need-add-also Inv-loop μ-loop
+add-also c = let l = c .before .before .before .before .loop in record { fits = omega (arith, partner-low (l .i) (c .before .before .before .before .before .before .before .args .n) (c .before .before .before .loop-test .taken) (c .before .before .partner .ensures), c .before .before .before .before .before .before .before .pre .0, c .digit-at2 .ensures .1) }
+
+mul-also-2 : tie.Need-mul-also-2 Inv-loop μ-loop
+mul-also-2 c = let l = c .before .before .before .before .loop in record { fits = omega (arith, partner-low (l .i) (c .before .before .before .before .before .before .before .args .n) (c .before .before .before .loop-test .taken) (c .before .before .partner .ensures), c .before .before .before .before .before .before .before .pre .0, c .digit-at2 .ensures .1) }
+
 narrow-by-requires : tie.Need-narrow-by-requires Inv-loop μ-loop
 narrow-by-requires c κs =
-    let s = c .before .before .before .before .before .before in
-    let l = c .before .before .before .loop in
-    omega (arith, s .pre .0, s .pre .1, s .pre .2, l .inv .1 .long, c .before .digit-at .ensures .1)
+    let s = c .before .before .before .before .before .before .before .before in
+    let l = c .before .before .before .before .before .loop in
+    let p = partner-low (l .i) (s .args .n) (c .before .before .before .before .loop-test .taken) (c .before .before .before .partner .ensures) in
+    (omega (arith, c .before .before .before .before .loop-test .taken, s .pre .0, s .pre .1, s .pre .2, l .inv .1 .long, c .before .before .digit-at .ensures .1), omega (arith, p, s .pre .0, s .pre .1, s .pre .2, l .inv .1 .long, c .before .digit-at2 .ensures .1))
 
 add-i : tie.Need-add-i Inv-loop μ-loop
-add-i c = search needs
+add-i c = let l = c .before .before .before .before .before .before .before .before .loop in record { fits = omega (arith, partner-low (l .i) (c .before .before .before .before .before .before .before .before .before .before .before .args .n) (c .before .before .before .before .before .before .before .loop-test .taken) (c .before .before .before .before .before .before .partner .ensures), c .before .before .before .before .before .before .before .before .before .before .before .pre .0) }
 
 loop-less : tie.Need-loop-less Inv-loop μ-loop
-loop-less c = search needs
+loop-less c = let l = c .before .before .before .before .before .before .before .before .loop in omega (arith, partner-low (l .i) (c .before .before .before .before .before .before .before .before .before .before .before .args .n) (c .before .before .before .before .before .before .before .loop-test .taken) (c .before .before .before .before .before .before .partner .ensures))
 
 loop-again : tie.Need-loop-again Inv-loop μ-loop
 loop-again c =
-    let l = c .before .before .before .before .before .before .loop in
-    let d = c .before .before .before .before .digit-at in
-    (omega arith, narrowing-step (l .inv .1) (ap (λ (y : ℕ). 32 * (3 * l .i + y)) (d .ensures .0)) (c .before .before .narrow-by .kept .1 .1 .0) (c .before .before .narrow-by .ensures))
+    let s = c .before .before .before .before .before .before .before .before .before .before .before in
+    let l = c .before .before .before .before .before .before .before .before .loop in
+    let d = c .before .before .before .before .before .digit-at in
+    let e = c .before .before .before .before .digit-at2 in
+    let b = c .before .before .narrow-by in
+    let p = partner-low (l .i) (s .args .n) (c .before .before .before .before .before .before .before .loop-test .taken) (c .before .before .before .before .before .before .partner .ensures) in
+    (omega (arith, p), narrowing-step (l .inv .1) (b .last .1 .1 .1 .0) (b .kept .1 .1 .1 .0) (s .args .n) (c .before .before .before .before .before .before .partner .ensures) (ap (λ (y : ℕ). 32 * (3 * l .i + y)) (d .ensures .0)) (ap (λ (y : ℕ). 32 * (3 * c .before .before .before .before .before .before .partner .result + y)) (e .ensures .0)) (b .ensures))
 
 same-length : tie.Need-same-length Inv-loop μ-loop
 same-length c = search needs
@@ -63,10 +82,15 @@ narrow-spec =
     Inv-loop
     μ-loop
     loop-holds
+    partner-requires
     mul-at
     digit-at-requires
     add-at
     mul-at-2
+    mul-also
+    digit-at-requires-2
+    add-also
+    mul-also-2
     narrow-by-requires
     add-i
     loop-less

@@ -9,10 +9,10 @@ use Rattle.blocks.proofs.narrow.narrow_by.Statement.{statement}
 use Rattle.blocks.proofs.narrow.narrow_by.Tie as tie
 
 abbrev Inv-loop : tie.InvT-loop
-Inv-loop columns at rows₀ b₀ rows b = (b ≤ length rows₀) × Sweep (λ k v. bitAnd v (getD columns (at + k) 0)) 0 rows₀ rows b
+Inv-loop columns at also rows₀ b₀ rows b = (b ≤ length rows₀) × Sweep (λ k v. bitAnd v (bitAnd (getD columns (at + k) 0) (getD columns (also + k) 0))) 0 rows₀ rows b
 
 abbrev μ-loop : tie.MeasureT-loop
-μ-loop columns at rows₀ b₀ rows b = length rows₀ - b
+μ-loop columns at also rows₀ b₀ rows b = length rows₀ - b
 
 loop-holds : tie.Need-loop-holds Inv-loop μ-loop
 loop-holds c = search needs
@@ -32,8 +32,17 @@ mul-rows-2 c = search needs
 shared-slice-read-rows : tie.Need-shared-slice-read-rows Inv-loop μ-loop
 shared-slice-read-rows c = search needs
 
+add-rows-2 : tie.Need-add-rows-2 Inv-loop μ-loop
+add-rows-2 c = search needs
+
 mul-rows-3 : tie.Need-mul-rows-3 Inv-loop μ-loop
 mul-rows-3 c = search needs
+
+shared-slice-read-rows-2 : tie.Need-shared-slice-read-rows-2 Inv-loop μ-loop
+shared-slice-read-rows-2 c = search needs
+
+mul-rows-4 : tie.Need-mul-rows-4 Inv-loop μ-loop
+mul-rows-4 c = search needs
 
 slice-write-rows : tie.Need-slice-write-rows Inv-loop μ-loop
 slice-write-rows c = search needs
@@ -42,10 +51,10 @@ add-b : tie.Need-add-b Inv-loop μ-loop
 add-b c = search needs
 
 loop-less : tie.Need-loop-less Inv-loop μ-loop
-loop-less c = omega (arith, c .before .before .before .loop .inv .1 .long)
+loop-less c = omega (arith, c .before .before .before .before .loop .inv .1 .long, c .before .before .before .loop-test .taken)
 
 loop-again : tie.Need-loop-again Inv-loop μ-loop
-loop-again c = let l = c .before .before .before .loop in (omega (arith, l .inv .1 .long), sweep-step (l .inv .1) (omega (arith, l .inv .1 .long)) refl)
+loop-again c = let l = c .before .before .before .before .loop in (omega (arith, l .inv .1 .long, c .before .before .before .loop-test .taken), sweep-step (l .inv .1) (c .before .before .before .loop-test .taken) refl)
 
 same-length : tie.Need-same-length Inv-loop μ-loop
 same-length c = search needs
@@ -65,7 +74,10 @@ narrow-by-spec =
     add-rows
     mul-rows-2
     shared-slice-read-rows
+    add-rows-2
     mul-rows-3
+    shared-slice-read-rows-2
+    mul-rows-4
     slice-write-rows
     add-b
     loop-less
