@@ -7,6 +7,7 @@ pub mod Point
 pub mod Meaning
 -- The input rules, and the sets that they let through.
 pub mod Rules
+pub mod Numbers
 pub mod Sets
 pub mod Monotone
 pub mod Source

@@ -7,63 +7,43 @@ use Prim.Native.Nat.{ℕ, _*_}
 use native.Mathlib.Omega.{arith}
 use lib.ListN.{length, drop}
 use Rattle.hazard.specs.Search.{firstOf}
-use Rattle.hazard.specs.Sets.{Required, required, privileged}
-use Rattle.hazard.specs.Transition.{off}
-use Rattle.hazard.specs.Growth.{Growth, Legal, Blocked, grow}
 use Rattle.hazard.specs.Cover.{Network}
 use Rattle.hazard.specs.Refusal.{Refusal, inputChecks, Accepted}
-use Rattle.hazard.specs.Minimal.{blockedBy, blockCheck, roomCheck, blocking, minimiserChecks, Minimal, Minimised, written, declined, bytesOf, NoNetwork, Promise}
-use Rattle.hazard.proofs.Search.{none-some, firstOf-append, firstOf-some, firstOf-one}
+use Rattle.hazard.specs.Minimal.{roomCheck, blocking, minimiserChecks, Minimal, Minimised, written, declined, bytesOf, NoNetwork, Promise}
+use Rattle.hazard.proofs.Search.{none-some, firstOf-append, firstOf-right, firstOf-one}
+use Rattle.hazard.proofs.Numbers.{block-number}
 use Rattle.hazard.proofs.Minimal.{exists-iff}
 
-module _ (n : ℕ) (f ts : List ℕ) where
-  -- The first blocking cube has number 10.
-  pub block-number : (q : Refusal) → blocking n f ts ≡ some q → q .number ≡ 10
-  block-number q e = let (r, m, h) = firstOf-some (blockCheck n (off f) (privileged n f ts)) (required n f ts) e in go r (grow n (off f) (privileged n f ts) (r .cube)) h
+module _ (n : ℕ) (f ts before : List ℕ) where
+  abbrev early : List (Option Refusal)
+  early = inputChecks n f ts ++ (roomCheck n f ts (length before) ∷ [])
+
+  -- Checks 1 to 9 let it through: what is left is the first blocking cube.
+  checks-end : firstOf early ≡ none → firstOf (minimiserChecks n f ts (length before)) ≡ blocking n f ts
+  checks-end e = firstOf-right early (blocking n f ts ∷ []) e ∙ firstOf-one (blocking n f ts)
+
+  early-accepted : firstOf early ≡ none → Accepted n f ts
+  early-accepted e = firstOf-append (inputChecks n f ts) (roomCheck n f ts (length before) ∷ []) .0 e .0
+
+  -- Refused, and the buffer as it was.
+  pub promise-refused : {q : Refusal} → firstOf (minimiserChecks n f ts (length before)) ≡ some q → Promise n f ts before before (declined q)
+  promise-refused {q} e =
+      record {
+        refused = λ p h. (ap declined (Option·some-injective q p (sym e ∙ h)), refl);
+        network = λ h. none-some (sym h ∙ e);
+        none· = λ h. let b : blocking n f ts ≡ some q = sym (checks-end h) ∙ e in
+            (λ d m. none-some (sym (exists-iff n f ts (early-accepted h) .1 m) ∙ b), λ m. (q, refl, block-number n f ts q b));
+      }
+
+  -- A minimal network, written.
+  pub promise-written : {after : List ℕ} (net : Network) → firstOf (minimiserChecks n f ts (length before)) ≡ none → Minimal n f ts net → after ≡ bytesOf net ++ drop (n * length net) before
+      → Promise n f ts before after (written (length net))
+  promise-written net e m w =
+      record {
+        refused = λ p h. none-some (sym e ∙ h);
+        network = λ h. (net, refl, m, w);
+        none· = λ h. (λ d. never d, λ k. absurd (k (net, λ p u. m .primes p u .product, m .hazardFree)));
+      }
     where
-      go : (r : Required) (g : Growth) → blockedBy r g ≡ some q → q .number ≡ 10
-      go r (Legal c s) h = none-some h
-      go r (Blocked z s) h = sym (ap (λ (x : Refusal). x .number) (Option·some-injective _ _ h))
-
-  module _ (before : List ℕ) where
-    abbrev early : List (Option Refusal)
-    early = inputChecks n f ts ++ (roomCheck n f ts (length before) ∷ [])
-
-    -- Checks 1 to 9 let it through: what is left is the first blocking cube.
-    checks-end : firstOf early ≡ none → firstOf (minimiserChecks n f ts (length before)) ≡ blocking n f ts
-    checks-end e = go (inputChecks n f ts) e
-      where
-        go : (l : List (Option Refusal)) → firstOf (l ++ (roomCheck n f ts (length before) ∷ [])) ≡ none → firstOf (l ++ (roomCheck n f ts (length before) ∷ blocking n f ts ∷ [])) ≡ blocking n f ts
-        go [] e = last (roomCheck n f ts (length before)) e
-          where
-            last : (o : Option Refusal) → firstOf (o ∷ []) ≡ none → firstOf (o ∷ blocking n f ts ∷ []) ≡ blocking n f ts
-            last none e = firstOf-one (blocking n f ts)
-            last (some q) e = none-some (sym e)
-        go (none ∷ l) e = go l e
-        go (some q ∷ l) e = none-some (sym e)
-
-    early-accepted : firstOf early ≡ none → Accepted n f ts
-    early-accepted e = firstOf-append (inputChecks n f ts) (roomCheck n f ts (length before) ∷ []) .0 e .0
-
-    -- Refused, and the buffer as it was.
-    pub promise-refused : {q : Refusal} → firstOf (minimiserChecks n f ts (length before)) ≡ some q → Promise n f ts before before (declined q)
-    promise-refused {q} e =
-        record {
-          refused = λ p h. (ap declined (Option·some-injective q p (sym e ∙ h)), refl);
-          network = λ h. none-some (sym h ∙ e);
-          none· = λ h. let b : blocking n f ts ≡ some q = sym (checks-end h) ∙ e in
-              (λ d m. none-some (sym (exists-iff n f ts (early-accepted h) .1 m) ∙ b), λ m. (q, refl, block-number q b));
-        }
-
-    -- A minimal network, written.
-    pub promise-written : {after : List ℕ} (net : Network) → firstOf (minimiserChecks n f ts (length before)) ≡ none → Minimal n f ts net → after ≡ bytesOf net ++ drop (n * length net) before
-        → Promise n f ts before after (written (length net))
-    promise-written net e m w =
-        record {
-          refused = λ p h. none-some (sym e ∙ h);
-          network = λ h. (net, refl, m, w);
-          none· = λ h. (λ d. never d, λ k. absurd (k (net, λ p u. m .primes p u .product, m .hazardFree)));
-        }
-      where
-        never : {C : Type 0} → (q : Refusal) × (written (length net) ≡ declined q) × (q .number ≡ 10) → C
-        never (q, d, k) = let z : _≡_ {A = ℕ} 0 1 = cc in absurd (omega arith)
+      never : {C : Type 0} → (q : Refusal) × (written (length net) ≡ declined q) × (q .number ≡ 10) → C
+      never (q, d, k) = let z : _≡_ {A = ℕ} 0 1 = cc in absurd (omega arith)

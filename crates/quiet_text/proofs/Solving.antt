@@ -23,7 +23,7 @@ use Rattle.hazard.specs.Minimal.{roomCheck, blocking, minimiserChecks, Minimal,
 use Rattle.hazard.proofs.Test.{T-and}
 use Rattle.hazard.proofs.Search.{none-some, firstOf-left, firstOf-right, firstOf-one, firstOf-append}
 use Rattle.hazard.proofs.Rules.{few-inputs, required-few}
-use Rattle.hazard.proofs.Promise.{block-number}
+use Rattle.hazard.proofs.Numbers.{block-number}
 use Rattle.problem_text.specs.Decimal.{decimal}
 use Rattle.problem_text.specs.Form.{newline, cell}
 use Rattle.answer_text.specs.Output.{productsHead, productLines, networkText, field, refusalText}
