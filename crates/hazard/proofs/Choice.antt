@@ -83,12 +83,9 @@ module _ (rs : List Required) where
           few = omega (arith, less);
         }
 
-  -- At the end what is kept covers every required cube, each product has one of its own, and there are no more than required cubes.
+  -- At the end what is kept covers every required cube, and each product has one of its own.
   pub choice-covers : (kept : Network) → Chosen rs [] kept → (r : Required) → List·Memᴰ r rs → T (covered kept (r .cube))
   choice-covers kept h r m = elim (known (covered kept (r .cube))) [ inl t ↦ t | inr t ↦ absurd (h .covers r m t) ]
 
   pub choice-irredundant : (kept : Network) → Chosen rs [] kept → Irredundant rs kept
   choice-irredundant kept h j l = h .own j l .0
-
-  pub choice-few : (kept : Network) → Chosen rs [] kept → length kept ≤ length rs
-  choice-few kept h = omega (arith, h .few)

@@ -20,9 +20,6 @@ pub not-found : {A : Type 0} {o : Option A} → ¬ T (found o) → o ≡ none
 not-found {A} {o = none} t = refl
 not-found {A} {o = some a} t = absurd (t tt)
 
-pub none-found : {A : Type 0} {o : Option A} → o ≡ none → ¬ T (found o)
-none-found {A} {o} e t = subst (λ (p : Option A). T (found p)) e t
-
 -- What the lowest number that passes a test is.
 pub data First (test : ℕ → Bool) (from size : ℕ) : Option ℕ → Type 0 where
   nowhere : ((x : ℕ) → from ≤ x → x < from + size → ¬ T (test x)) → First test from size none

@@ -207,17 +207,10 @@ module _ (a b : ℕ) where
     pub literal : dig (productAt net (w .product)) (w .input) ≢ 2
     pub moving : bit a (w .input) ≢ bit b (w .input)
 
-  -- The wires of a network are exactly these, each once: so a run moves each of them once, and nothing else.
+  -- A network has the wire of each of these once, so a run moves it once.
   pub times-literal : (net : Network) (w : Wire) → Literal net w → times (wires a b 0 net) w ≡ 1
   times-literal net w h = omega (
     arith,
     wires-once 0 net w,
     seen-times (wires a b 0 net) w (rw (zero-add (w .product)) at (seen-wires 0 net (w .product) (w .input) (h .place) (h .literal) (h .moving))),
   )
-
-  pub times-no-literal : (net : Network) (w : Wire) → ¬ Literal net w → times (wires a b 0 net) w ≡ 0
-  times-no-literal net w h = times-zero (wires a b 0 net) w (λ t.
-      let r = wires-e 0 net w t in
-      let k : r .0 ≡ w .product = omega (arith, r .2 .mine) in
-      let i : r .2 .place ≡ w .input = omega (arith, r .2 .here) in
-      h (record { place = omega (arith, r .1); literal = λ z. r .2 .literal (rw (k, i) z); moving = r .2 .moving }))
