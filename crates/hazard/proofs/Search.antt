@@ -1,11 +1,12 @@
 -- What the searches find.
 use mathlib.Core.Path.{_≡_, refl, sym, _∙_, subst, subst⁻¹}
-use mathlib.Core.Logic.{_↔_, inl, inr}
+use mathlib.Core.Logic.{_↔_, inl, inr, ∥∥₁-elim}
 use mathlib.Core.Bool.{Bool, true, false}
-use mathlib.Core.List.{List, [], _∷_, _++_, map, List·Memᴰ, List·Memᴰ·head, List·Memᴰ·tail, List·Memᴰ·not-nil, List·Memᴰ·cases-cons}
+use mathlib.Core.List.{List, [], _∷_, _++_, map, List·Memᴰ, List·Memᴰ·head, List·Memᴰ·tail, List·Memᴰ·not-nil, List·Memᴰ·cases-cons, Pairwise, Pairwise·nil, Pairwise·cons}
 use mathlib.Core.Option.{Option, none, some}
 use Prim.Native.Nat.{ℕ, zero, suc, _+_, _≤_, _<_}
 use native.Mathlib.Omega.{arith}
+use native.Mathlib.Bridge.{le-prop}
 use native.Mathlib.Decide.{ℕ-discrete}
 use lib.Dec.{T}
 use lib.ListN.{getD}
@@ -84,6 +85,15 @@ those-i test from (suc size) i l h t = go (λ ne. those-i test (suc from) size i
         → List·Memᴰ i (elim b [ true ↦ from ∷ those test (suc from) size | false ↦ those test (suc from) size ])
     go below true b = elim (ℕ-discrete from i) [ yes e ↦ List·Memᴰ·head (sym e) | no ne ↦ List·Memᴰ·tail (below ne) ]
     go below false b = below (λ q. so-not b (subst⁻¹ (λ (k : ℕ). T (test k)) q t))
+
+pub those-order : (test : ℕ → Bool) (from size : ℕ) → Pairwise (λ x y. x < y) (those test from size)
+those-order test from zero = Pairwise·nil
+those-order test from (suc size) = go (test from) (those-order test (suc from) size)
+  where
+    go : (b : Bool) → Pairwise (λ x y. x < y) (those test (suc from) size)
+        → Pairwise (λ x y. x < y) (elim b [ true ↦ from ∷ those test (suc from) size | false ↦ those test (suc from) size ])
+    go true next = Pairwise·cons (λ x m. ∥∥₁-elim m le-prop (λ d. those-e test (suc from) size d .0)) next
+    go false next = next
 
 -- The entries before a place in a list fail the test.
 abbrev pub Earlier : {A : Type 0} (test : A → Bool) {a : A} {l : List A} → List·Memᴰ a l → Type 0

@@ -1,16 +1,19 @@
--- The entries of the lists of required and of privileged cubes.
+-- The entries of the lists of required and of privileged cubes, and their order.
 use mathlib.Core.Path.{_≡_, refl, sym, ap, subst, subst⁻¹}
-use mathlib.Core.Logic.{inl, inr}
+use mathlib.Core.HLevel.{×-prop, →-prop}
+use mathlib.Core.Logic.{inl, inr, ∥∥₁-elim}
 use mathlib.Core.Bool.{Bool, true, false}
-use mathlib.Core.List.{List, _∷_, List·Memᴰ, List·Memᴰ·head, List·Memᴰ·tail, List·Memᴰ·not-nil, List·Memᴰ·cases-cons, List·Memᴰ·append-cases, Memᴰ·append-left, Memᴰ·append-right, Memᴰ·map, Memᴰ·of-map}
-use Prim.Native.Nat.{ℕ, zero, suc, _+_, _≤_, _<_}
+use mathlib.Core.List.{List, _∷_, List·Memᴰ, List·Memᴰ·head, List·Memᴰ·tail, List·Memᴰ·not-nil, List·Memᴰ·cases-cons, List·Memᴰ·append-cases, Memᴰ·append-left, Memᴰ·append-right, Memᴰ·map, Memᴰ·of-map, Pairwise, Pairwise·nil, Pairwise·cons, Pairwise·map, pairwise-append, pairwise-singleton}
+use Prim.Native.Nat.{ℕ, zero, suc, _+_, _^_, _≤_, _<_}
 use native.Mathlib.Omega.{arith}
+use native.Mathlib.Bridge.{le-prop}
 use native.Mathlib.Decide.{ℕ-discrete}
 use lib.Dec.{T}
 use Rattle.hazard.specs.Cube.{span}
-use Rattle.hazard.specs.Transition.{start, end, count}
-use Rattle.hazard.specs.Sets.{Required, Privileged, labels, dynamic, kindAt, startAt, requiredOf, requiredFrom, required, privilegedFrom, privileged}
+use Rattle.hazard.specs.Transition.{start, end, count, Kind, low, rise, fall, high}
+use Rattle.hazard.specs.Sets.{Required, Privileged, last, labels, dynamic, kindAt, startAt, requiredOf, requiredFrom, required, privilegedFrom, privileged}
 use Rattle.hazard.proofs.Test.{so, so-not}
+use Rattle.hazard.proofs.Search.{those-order}
 use Rattle.hazard.proofs.Cube.{Digits, span-digits}
 use Rattle.hazard.proofs.Implicant.{Wide}
 
@@ -35,19 +38,19 @@ module _ (n : ℕ) (f ts : List ℕ) where
       ]
 
   requiredFrom-e : (from m : ℕ) {r : Required} → List·Memᴰ r (requiredFrom n f ts from m)
-      → (k : ℕ) × (x : ℕ) × (k < from + m) × List·Memᴰ x (labelsAt k) × (requiredAt k x ≡ r)
+      → (k : ℕ) × (x : ℕ) × (from ≤ k) × (k < from + m) × List·Memᴰ x (labelsAt k) × (requiredAt k x ≡ r)
   requiredFrom-e from zero t = absurd (List·Memᴰ·not-nil t)
   requiredFrom-e from (suc m) t =
       elim (List·Memᴰ·append-cases (requiredOf n f ts from) t) [
-        | inl u ↦ let w = Memᴰ·of-map (requiredAt from) (labelsAt from) u in (from, w .0, omega arith, w .1, w .2)
-        | inr u ↦ let w = requiredFrom-e (suc from) m u in (w .0, w .1, omega (arith, w .2), w .3, w .4)
+        | inl u ↦ let w = Memᴰ·of-map (requiredAt from) (labelsAt from) u in (from, w .0, omega arith, omega arith, w .1, w .2)
+        | inr u ↦ let w = requiredFrom-e (suc from) m u in (w .0, w .1, omega (arith, w .2), omega (arith, w .3), w .4, w .5)
       ]
 
   pub required-i : (k x : ℕ) → k < count ts → List·Memᴰ x (labelsAt k) → List·Memᴰ (requiredAt k x) (required n f ts)
   required-i k x l t = requiredFrom-i 0 (count ts) k x (omega arith) (omega arith) t
 
   pub required-e : {r : Required} → List·Memᴰ r (required n f ts) → (k : ℕ) × (x : ℕ) × (k < count ts) × List·Memᴰ x (labelsAt k) × (requiredAt k x ≡ r)
-  required-e t = let w = requiredFrom-e 0 (count ts) t in (w .0, w .1, omega (arith, w .2), w .3, w .4)
+  required-e t = let w = requiredFrom-e 0 (count ts) t in (w .0, w .1, omega (arith, w .3), w .4, w .5)
 
   pub required-digits : (r : Required) → List·Memᴰ r (required n f ts) → Digits n (r .cube)
   required-digits r t = let w = required-e t in subst (λ (q : Required). Digits n (q .cube)) (w .4) (span-digits n (startAt f ts (w .0)) (w .1))
@@ -61,21 +64,72 @@ module _ (n : ℕ) (f ts : List ℕ) where
       go below true b = elim (ℕ-discrete from k) [ yes e ↦ List·Memᴰ·head (ap privilegedAt (sym e)) | no ne ↦ List·Memᴰ·tail (below ne) ]
       go below false b = below (λ q. so-not b (subst⁻¹ (λ (z : ℕ). T (dynamic (kindAt f ts z))) q t))
 
-  privilegedFrom-e : (from m : ℕ) {v : Privileged} → List·Memᴰ v (privilegedFrom n f ts from m) → (k : ℕ) × (k < from + m) × T (dynamic (kindAt f ts k)) × (privilegedAt k ≡ v)
+  privilegedFrom-e : (from m : ℕ) {v : Privileged} → List·Memᴰ v (privilegedFrom n f ts from m) → (k : ℕ) × (from ≤ k) × (k < from + m) × T (dynamic (kindAt f ts k)) × (privilegedAt k ≡ v)
   privilegedFrom-e from zero t = absurd (List·Memᴰ·not-nil t)
-  privilegedFrom-e from (suc m) {v} t = go (λ u. let w = privilegedFrom-e (suc from) m u in (w .0, omega (arith, w .1), w .2, w .3)) (dynamic (kindAt f ts from)) refl t
+  privilegedFrom-e from (suc m) {v} t = go (λ u. let w = privilegedFrom-e (suc from) m u in (w .0, omega (arith, w .1), omega (arith, w .2), w .3, w .4)) (dynamic (kindAt f ts from)) refl t
     where
-      go : (List·Memᴰ v (privilegedFrom n f ts (suc from) m) → (k : ℕ) × (k < from + suc m) × T (dynamic (kindAt f ts k)) × (privilegedAt k ≡ v)) → (b : Bool) → dynamic (kindAt f ts from) ≡ b
+      go : (List·Memᴰ v (privilegedFrom n f ts (suc from) m) → (k : ℕ) × (from ≤ k) × (k < from + suc m) × T (dynamic (kindAt f ts k)) × (privilegedAt k ≡ v)) → (b : Bool) → dynamic (kindAt f ts from) ≡ b
           → List·Memᴰ v (elim b [ true ↦ privilegedAt from ∷ privilegedFrom n f ts (suc from) m | false ↦ privilegedFrom n f ts (suc from) m ])
-          → (k : ℕ) × (k < from + suc m) × T (dynamic (kindAt f ts k)) × (privilegedAt k ≡ v)
-      go below true b u = elim (List·Memᴰ·cases-cons u) [ inl e ↦ (from, omega arith, so b, sym e) | inr w ↦ below w ]
+          → (k : ℕ) × (from ≤ k) × (k < from + suc m) × T (dynamic (kindAt f ts k)) × (privilegedAt k ≡ v)
+      go below true b u = elim (List·Memᴰ·cases-cons u) [ inl e ↦ (from, omega arith, omega arith, so b, sym e) | inr w ↦ below w ]
       go below false b u = below u
 
   pub privileged-i : (k : ℕ) → k < count ts → T (dynamic (kindAt f ts k)) → List·Memᴰ (privilegedAt k) (privileged n f ts)
   privileged-i k l t = privilegedFrom-i 0 (count ts) k (omega arith) (omega arith) t
 
   pub privileged-e : {v : Privileged} → List·Memᴰ v (privileged n f ts) → (k : ℕ) × (k < count ts) × T (dynamic (kindAt f ts k)) × (privilegedAt k ≡ v)
-  privileged-e t = let w = privilegedFrom-e 0 (count ts) t in (w .0, omega (arith, w .1), w .2, w .3)
+  privileged-e t = let w = privilegedFrom-e 0 (count ts) t in (w .0, omega (arith, w .2), w .3, w .4)
 
   pub privileged-wide : Wide n (privileged n f ts)
   privileged-wide v t = let w = privileged-e t in subst (λ (u : Privileged). Digits n (u .cube)) (w .3) (span-digits n (start ts (w .0)) (end ts (w .0)))
+
+  privilegedFrom-order : (from m : ℕ) → Pairwise (λ (v w : Privileged). v .transition < w .transition) (privilegedFrom n f ts from m)
+  privilegedFrom-order from zero = Pairwise·nil
+  privilegedFrom-order from (suc m) = go (dynamic (kindAt f ts from)) (privilegedFrom-order (suc from) m)
+    where
+      Order : List Privileged → Type 0
+      Order = Pairwise (λ (v w : Privileged). v .transition < w .transition)
+
+      go : (b : Bool) → Order (privilegedFrom n f ts (suc from) m)
+          → Order (elim b [ true ↦ privilegedAt from ∷ privilegedFrom n f ts (suc from) m | false ↦ privilegedFrom n f ts (suc from) m ])
+      go true next = Pairwise·cons (λ w d. ∥∥₁-elim d le-prop (λ u. let r = privilegedFrom-e (suc from) m u in subst (λ (w : Privileged). from < w .transition) (r .4) (r .1))) next
+      go false next = next
+
+  -- The privileged cubes stand in order of transition, each transition at most once.
+  pub privileged-order : Pairwise (λ (v w : Privileged). v .transition < w .transition) (privileged n f ts)
+  privileged-order = privilegedFrom-order 0 (count ts)
+
+-- In order of transition, and for one transition in order of label.
+abbrev pub Before : Required → Required → Type 0
+Before r s = (r .transition ≤ s .transition) × (r .transition ≡ s .transition → r .label < s .label)
+
+before-prop : (r s : Required) → IsProp (Before r s)
+before-prop r s = ×-prop le-prop (→-prop le-prop)
+
+labels-order : (n : ℕ) (f : List ℕ) (k : Kind) (a b : ℕ) → Pairwise (λ x y. x < y) (labels n f k a b)
+labels-order n f low a b = Pairwise·nil
+labels-order n f rise a b = those-order (last n f b a) 0 (2 ^ n)
+labels-order n f fall a b = those-order (last n f a b) 0 (2 ^ n)
+labels-order n f high a b = pairwise-singleton (λ x y. x < y) b
+
+module _ (n : ℕ) (f ts : List ℕ) where
+  requiredFrom-order : (from m : ℕ) → Pairwise Before (requiredFrom n f ts from m)
+  requiredFrom-order from zero = Pairwise·nil
+  requiredFrom-order from (suc m) =
+      pairwise-append before-prop .1 (
+        Pairwise·map {S = Before} before-prop (requiredAt n f ts from) (λ x y l. (omega arith, λ e. l)) (labels-order n f (kindAt f ts from) (start ts from) (end ts from)),
+        requiredFrom-order (suc from) m,
+        λ r t s u. ∥∥₁-elim t (before-prop r s) (λ d. ∥∥₁-elim u (before-prop r s) (λ e. later r s d e)),
+      )
+    where
+      later : (r s : Required) → List·Memᴰ r (requiredOf n f ts from) → List·Memᴰ s (requiredFrom n f ts (suc from) m) → Before r s
+      later r s d e =
+          let w = Memᴰ·of-map (requiredAt n f ts from) (labelsAt n f ts from) d in
+          let v = requiredFrom-e n f ts (suc from) m e in
+          let i : from ≡ r .transition = ap (λ (q : Required). q .transition) (w .2) in
+          let j : v .0 ≡ s .transition = ap (λ (q : Required). q .transition) (v .5) in
+          (omega (arith, v .2), λ c. absurd (omega (arith, v .2)))
+
+  -- The required cubes stand in order of transition, then of label.
+  pub required-order : Pairwise Before (required n f ts)
+  required-order = requiredFrom-order 0 (count ts)

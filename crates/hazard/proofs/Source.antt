@@ -1,27 +1,28 @@
--- Our sets are the source's: the labels, the rules of the kinds, and condition (c).
-use mathlib.Core.Path.{_≡_, sym, _∙_, subst⁻¹}
-use mathlib.Core.Logic.{_≢_, _↔_}
+-- Our sets are the source's: the labels, the required cubes, the privileged cubes, the OFF-set; so are the rules of the kinds and the conditions of a cover.
+use mathlib.Core.Path.{_≡_, refl, sym, ap, _∙_, subst, subst⁻¹}
+use mathlib.Core.Logic.{_≢_, _↔_, inl, inr}
 use mathlib.Core.Bool.{Bool, _&&_}
 use mathlib.Core.List.{List, List·Memᴰ, List·Memᴰ·head, List·Memᴰ·not-nil, List·Memᴰ·eq-of-singleton, Memᴰ·cast}
 use mathlib.Core.Option.{none}
-use Prim.Native.Nat.{ℕ, _-_, _^_, _≤_, _<_}
+use Prim.Native.Nat.{ℕ, _+_, _-_, _*_, _^_, _≤_, _<_}
 use native.Mathlib.Omega.{arith}
-use native.Mathlib.Decide.{ℕ-discrete}
-use lib.Dec.{T, eqb}
+use native.Mathlib.Decide.{ℕ-discrete, decLt}
+use lib.Dec.{T, eqb, eqb→eq}
+use lib.ListN.{length, List·getD-eq-default}
 use Rattle.hazard.specs.Search.{those}
-use Rattle.hazard.specs.Cube.{Cube, bit, flip, has, span, inside}
-use Rattle.hazard.specs.Transition.{value, start, end, count, Kind, low, rise, fall, high, kind, further, breaks, brokenAt}
-use Rattle.hazard.specs.Sets.{Required, Privileged, last, labels, startPoint, kindAt, required, privileged}
-use Rattle.hazard.specs.Implicant.{illegal}
-use Rattle.hazard.specs.Cover.{Network, WellFormed, HazardFreeCover}
+use Rattle.hazard.specs.Cube.{Cube, bit, flip, has, span, meets, inside}
+use Rattle.hazard.specs.Transition.{value, off, start, end, count, Kind, low, rise, fall, high, kindOf, kind, further, breaks, brokenAt}
+use Rattle.hazard.specs.Sets.{Required, Privileged, last, labels, startPoint, dynamic, kindAt, required, privileged}
+use Rattle.hazard.specs.Cover.{Network, productAt, WellFormed, HazardFreeCover}
 use Rattle.hazard.specs.Refusal.{Accepted}
-use Rattle.hazard.specs.Source.{StaticHazard, DynamicHazard, OneOn, MaximalOn, SourceLabel, Trivial, SourceCover}
-use Rattle.hazard.proofs.Test.{tests, T-and, T-no, eqb-of}
+use Rattle.hazard.specs.Source.{StaticHazard, DynamicHazard, OneOn, MaximalOn, SourceLabel, SourceRequired, stays, falls, rises, SourcePrivileged, SourceOff, Trivial, SourceCover}
+use Rattle.hazard.proofs.Test.{tests, known, T-and, T-no, eqb-of}
 use Rattle.hazard.proofs.Search.{first-none, none-first, those-e, those-i}
 use Rattle.hazard.proofs.Cube.{digits→, →has, meets→, span-digits, span-left, span-right}
 use Rattle.hazard.proofs.Point.{In, in-e, in-i, span-swap, ends-e, ends-i, between, flip-same, flip-other, flip-lt}
-use Rattle.hazard.proofs.Sets.{requiredAt, required-i, required-e, privileged-wide}
-use Rattle.hazard.proofs.Rules.{EndValues, end-values, RulesAt, rules-at}
+use Rattle.hazard.proofs.Sets.{required-i, required-e, privileged-i, privileged-e, privileged-wide}
+use Rattle.hazard.proofs.Rules.{EndValues, end-values, RulesAt, table-length, rules-at}
+use Rattle.hazard.proofs.Network.{entry-at, covered-e, covered-by}
 use Rattle.hazard.proofs.Monotone.{Moves, move-in, move-rest, move-past, further-e, further-i, turns-e, Defined, Steady, rise-fall, kept-on}
 
 -- A fall from s to e: no 0 has a 1 one move further.
@@ -102,12 +103,72 @@ pub labels-accepted : (n : ℕ) (f ts : List ℕ) → Accepted n f ts → (k : �
     → List·Memᴰ x (labels n f (kindAt f ts k) (start ts k) (end ts k)) ↔ SourceLabel n f (kindAt f ts k) (start ts k) (end ts k) x
 labels-accepted n f ts accepted k l = labels-source n f (start ts k) (end ts k) (kindAt f ts k) (rules-at n f ts accepted k l)
 
--- The required cubes are the source's, all of them and no others.
-pub required-source : (n : ℕ) (f ts : List ℕ) → Accepted n f ts → (r : Required)
-    → List·Memᴰ r (required n f ts) ↔ ((k : ℕ) × (x : ℕ) × (k < count ts) × SourceLabel n f (kindAt f ts k) (start ts k) (end ts k) x × (requiredAt n f ts k x ≡ r))
-required-source n f ts accepted r = (
-  λ m. let (k, x, l, u, e) = required-e n f ts m in (k, x, l, labels-accepted n f ts accepted k l x .0 u, e),
-  λ h. let (k, x, l, u, e) = h in Memᴰ·cast (sym e) (required-i n f ts k x l (labels-accepted n f ts accepted k l x .1 u)),
+-- The end values say the kind.
+values-kind : (k : Kind) (u v : ℕ) → EndValues k u v → k ≡ kindOf (2 * u + v)
+values-kind low u v e = rw (e .0, e .1) refl
+values-kind rise u v e = rw (e .0, e .1) refl
+values-kind fall u v e = rw (e .0, e .1) refl
+values-kind high u v e = rw (e .0, e .1) refl
+
+module _ (n : ℕ) (f : List ℕ) (a b : ℕ) where
+  ends-kind : (k : Kind) {u v : ℕ} → RulesAt n f a b k → value f a ≡ u → value f b ≡ v → k ≡ kindOf (2 * u + v)
+  ends-kind k h p q = values-kind k (value f a) (value f b) (h .ends) ∙ rw (p, q) refl
+
+  -- The required cubes of one transition, from our labels and from the source's words.
+  required-words : (k : Kind) → RulesAt n f a b k → (x : ℕ) → SourceLabel n f k a b x → SourceRequired n f a b (span n (startPoint k a b) x) x
+  required-words low h x l = absurd l
+  required-words rise h x l = rises (h .ends .0) (h .ends .1) l
+  required-words fall h x l = falls (h .ends .0) (h .ends .1) l
+  required-words high h x l = stays (h .ends .0) (h .ends .1) l
+
+  words-required : (k : Kind) → RulesAt n f a b k → (c : Cube) (x : ℕ) → SourceRequired n f a b c x → SourceLabel n f k a b x × (c ≡ span n (startPoint k a b) x)
+  words-required k h c x (stays p q l) = let e = ends-kind k h p q in subst⁻¹ (λ (j : Kind). SourceLabel n f j a b x × (span n a x ≡ span n (startPoint j a b) x)) e (l, refl)
+  words-required k h c x (falls p q l) = let e = ends-kind k h p q in subst⁻¹ (λ (j : Kind). SourceLabel n f j a b x × (span n a x ≡ span n (startPoint j a b) x)) e (l, refl)
+  words-required k h c x (rises p q l) = let e = ends-kind k h p q in subst⁻¹ (λ (j : Kind). SourceLabel n f j a b x × (span n b x ≡ span n (startPoint j a b) x)) e (l, refl)
+
+  -- The privileged cube of one transition.
+  privileged-words : (k : Kind) → RulesAt n f a b k → T (dynamic k) → SourcePrivileged n f a b (span n a b) (startPoint k a b)
+  privileged-words low h d = absurd d
+  privileged-words rise h d = rises (h .ends .0) (h .ends .1)
+  privileged-words fall h d = falls (h .ends .0) (h .ends .1)
+  privileged-words high h d = absurd d
+
+  words-privileged : (k : Kind) → RulesAt n f a b k → (c : Cube) (s : ℕ) → SourcePrivileged n f a b c s → T (dynamic k) × (c ≡ span n a b) × (s ≡ startPoint k a b)
+  words-privileged k h c s (falls p q) = let e = ends-kind k h p q in subst⁻¹ (λ (j : Kind). T (dynamic j) × (span n a b ≡ span n a b) × (a ≡ startPoint j a b)) e (tt, refl, refl)
+  words-privileged k h c s (rises p q) = let e = ends-kind k h p q in subst⁻¹ (λ (j : Kind). T (dynamic j) × (span n a b ≡ span n a b) × (b ≡ startPoint j a b)) e (tt, refl, refl)
+
+module _ (n : ℕ) (f ts : List ℕ) (accepted : Accepted n f ts) where
+  -- The required cubes are the source's, all of them and no others.
+  pub required-source : (r : Required)
+      → List·Memᴰ r (required n f ts) ↔ ((r .transition < count ts) × SourceRequired n f (start ts (r .transition)) (end ts (r .transition)) (r .cube) (r .label))
+  required-source r = (
+    λ m. let (k, x, l, u, e) = required-e n f ts m in
+        subst (λ (q : Required). (q .transition < count ts) × SourceRequired n f (start ts (q .transition)) (end ts (q .transition)) (q .cube) (q .label)) e
+        (l, required-words n f (start ts k) (end ts k) (kindAt f ts k) (rules-at n f ts accepted k l) x (labels-accepted n f ts accepted k l x .0 u)),
+    λ h. let k = r .transition in
+        let (l, s) = h in
+        let (u, e) = words-required n f (start ts k) (end ts k) (kindAt f ts k) (rules-at n f ts accepted k l) (r .cube) (r .label) s in
+        Memᴰ·cast (ap (λ (c : Cube). record { transition = k; label = r .label; cube = c }) e) (required-i n f ts k (r .label) l (labels-accepted n f ts accepted k l (r .label) .1 u)),
+  )
+
+  -- So are the privileged cubes,
+  pub privileged-source : (v : Privileged)
+      → List·Memᴰ v (privileged n f ts) ↔ ((v .transition < count ts) × SourcePrivileged n f (start ts (v .transition)) (end ts (v .transition)) (v .cube) (v .start))
+  privileged-source v = (
+    λ m. let (k, l, d, e) = privileged-e n f ts m in
+        subst (λ (q : Privileged). (q .transition < count ts) × SourcePrivileged n f (start ts (q .transition)) (end ts (q .transition)) (q .cube) (q .start)) e
+        (l, privileged-words n f (start ts k) (end ts k) (kindAt f ts k) (rules-at n f ts accepted k l) d),
+    λ h. let k = v .transition in
+        let (l, s) = h in
+        let (d, e, g) = words-privileged n f (start ts k) (end ts k) (kindAt f ts k) (rules-at n f ts accepted k l) (v .cube) (v .start) s in
+        Memᴰ·cast (ap (λ (c : Cube). record { transition = k; cube = c; start = v .start }) e ∙ ap (λ (x : ℕ). record { transition = k; cube = span n (start ts k) (end ts k); start = x }) g) (privileged-i n f ts k l d),
+  )
+
+-- and the OFF-set, of a table of 2^n values.
+pub off-source : (n : ℕ) (f : List ℕ) → length f ≡ 2 ^ n → (x : ℕ) → T (off f x) ↔ SourceOff n f x
+off-source n f whole x = (
+  λ t. let e = eqb→eq (value f x) 0 t in (elim (decLt x (2 ^ n)) [ yes l ↦ l | no l ↦ absurd (omega (arith, List·getD-eq-default f 2 {n = x} (omega arith))) ], e),
+  λ h. eqb-of (h .1),
 )
 
 -- f is 1 on every required cube.
@@ -122,8 +183,8 @@ label-ones n f a b high h x s y l t =
 
 pub required-ones : (n : ℕ) (f ts : List ℕ) → Accepted n f ts → (r : Required) → List·Memᴰ r (required n f ts) → (y : ℕ) → y < 2 ^ n → T (has (r .cube) y) → value f y ≡ 1
 required-ones n f ts accepted r m y l t =
-    let (k, x, h, s, e) = required-source n f ts accepted r .0 m in
-    label-ones n f (start ts k) (end ts k) (kindAt f ts k) (rules-at n f ts accepted k h) x s y l (subst⁻¹ (λ (q : Required). T (has (q .cube) y)) e t)
+    let (k, x, h, u, e) = required-e n f ts m in
+    label-ones n f (start ts k) (end ts k) (kindAt f ts k) (rules-at n f ts accepted k h) x (labels-accepted n f ts accepted k h x .0 u) y l (subst⁻¹ (λ (q : Required). T (has (q .cube) y)) e t)
 
 -- f has no function hazard for the transition from a to b.
 abbrev FunctionHazardFree : ℕ → List ℕ → ℕ → ℕ → Type 0
@@ -184,16 +245,33 @@ rule-source n f a b l m defined = (
     r : Kept n f a b (kind f a b) ↔ FunctionHazardFree n f a b
     r = kept-free n f a b defined (kind f a b) (end-values (value f a) (value f b) (defined a l (→has (span-left n a b))) (defined b m (→has (span-right n a b))))
 
--- Theorem 2.10: given (a), leaving the trivial privileged cubes out of (c) changes nothing.
-pub trivial-source : (n : ℕ) (f ts : List ℕ) (net : Network) → WellFormed n net → SourceCover n f ts net ↔ HazardFreeCover n f ts net
-trivial-source n f ts net formed = (
-  λ h. record { a = h .a; b = h .b; c = λ p m v u t. h .c p m v u (λ trivial. meet h p m v u trivial t) t },
-  λ h. record { a = h .a; b = h .b; c = λ p m v u t. h .c p m v u },
+-- Theorem 2.10: our conditions are the source's, though (c) there leaves out the trivial privileged cubes: given (a), that changes nothing.
+pub trivial-source : (n : ℕ) (f ts : List ℕ) (net : Network) → Accepted n f ts → WellFormed n net → SourceCover n f ts net ↔ HazardFreeCover n f ts net
+trivial-source n f ts net accepted formed = (
+  λ h. record {
+    a = λ p m x l o. h .a p m x (zero x .0 o);
+    b = λ r m. let (l, s) = required-source n f ts accepted r .0 m in
+        let (p, u, i) = h .b (r .transition) l (r .cube) (r .label) s in covered-by (r .cube) u i;
+    c = λ p m v u t. let (l, s) = privileged-source n f ts accepted v .0 u in
+        let (i, j) = simp (T-and, T-no) at t in
+        j (h .c p m (v .transition) l (v .cube) (v .start) s (λ trivial. meet h p m v u trivial i j) i);
+  },
+  λ h. record {
+    a = λ p m x o. h .a p m x (o .0) (zero x .1 o);
+    b = λ k l c x s. let (j, q, i) = covered-e net c (h .b (record { transition = k; label = x; cube = c }) (required-source n f ts accepted _ .1 (l, s))) in
+        (productAt net j, entry-at net j q, i);
+    c = λ p m k l c s u t i. elim (known (has p s)) [
+      | inl y ↦ y
+      | inr y ↦ absurd (h .c p m (record { transition = k; cube = c; start = s }) (privileged-source n f ts accepted _ .1 (l, u)) (simp (T-and, T-no) (i, y)))
+    ];
+  },
 )
   where
+    zero : (x : ℕ) → T (off f x) ↔ SourceOff n f x
+    zero = off-source n f (table-length n f ts accepted)
+
     -- The product and the trivial cube share a point that is not the start point, so a 0.
-    meet : SourceCover n f ts net → (p : Cube) → List·Memᴰ p net → (v : Privileged) → List·Memᴰ v (privileged n f ts) → Trivial n f v → ¬ T (illegal p v)
-    meet h p m v u trivial t =
-        let (i, j) = simp (T-and, T-no) at t in
+    meet : SourceCover n f ts net → (p : Cube) → List·Memᴰ p net → (v : Privileged) → List·Memᴰ v (privileged n f ts) → Trivial n f (v .cube) (v .start) → T (meets p (v .cube)) → ¬ T (has p (v .start)) → ⊥
+    meet h p m v u trivial i j =
         let (x, l, y, z) = meets→ (digits→ n p (formed p m)) (privileged-wide n f ts v u) i in
-        h .a p m x l (eqb-of (trivial .rest x l (→has z) (λ e. j (→has (rw e at y))))) (→has y)
+        h .a p m x (l, trivial .rest x l (→has z) (λ e. j (→has (rw e at y)))) (→has y)

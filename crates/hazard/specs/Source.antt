@@ -4,11 +4,9 @@ use mathlib.Core.Logic.{_≢_}
 use mathlib.Core.List.{List, List·Memᴰ}
 use Prim.Native.Nat.{ℕ, _<_, _^_}
 use lib.Dec.{T}
-use Rattle.hazard.specs.Cube.{Cube, has, span, inside}
-use Rattle.hazard.specs.Transition.{value, off, Kind, low, rise, fall, high}
-use Rattle.hazard.specs.Sets.{Required, Privileged, required, privileged}
-use Rattle.hazard.specs.Implicant.{illegal}
-use Rattle.hazard.specs.Cover.{Network, covered}
+use Rattle.hazard.specs.Cube.{Cube, has, span, meets, inside}
+use Rattle.hazard.specs.Transition.{value, start, end, count, Kind, low, rise, fall, high}
+use Rattle.hazard.specs.Cover.{Network}
 
 -- Definition 2.4: a static function hazard for the transition from a to c, shown by a point b of [a,c].
 pub record StaticHazard (n : ℕ) (f : List ℕ) (a c : ℕ) : Type 0 where
@@ -48,13 +46,32 @@ SourceLabel n f rise a b x = MaximalOn n f b a x
 SourceLabel n f fall a b x = MaximalOn n f a b x
 SourceLabel n f high a b x = x ≡ b
 
--- A trivial privileged cube: f is 1 at its start point and 0 at all its other points.
-pub record Trivial (n : ℕ) (f : List ℕ) (v : Privileged) : Type 0 where
-  pub one : value f (v .start) ≡ 1
-  pub rest : (x : ℕ) → x < 2 ^ n → T (has (v .cube) x) → x ≢ v .start → value f x ≡ 0
+-- The required cube, with its label, that the source gives a transition from a to b: [a,b] for 1 to 1 (Lemma 2.7), [a,x] for 1 to 0
+-- (Lemma 2.8), the same in reverse for 0 to 1, and none for 0 to 0 (Lemma 2.9).
+pub data SourceRequired (n : ℕ) (f : List ℕ) (a b : ℕ) : Cube → ℕ → Type 0 where
+  stays : {x : ℕ} → value f a ≡ 1 → value f b ≡ 1 → SourceLabel n f high a b x → SourceRequired n f a b (span n a x) x
+  falls : {x : ℕ} → value f a ≡ 1 → value f b ≡ 0 → SourceLabel n f fall a b x → SourceRequired n f a b (span n a x) x
+  rises : {x : ℕ} → value f a ≡ 0 → value f b ≡ 1 → SourceLabel n f rise a b x → SourceRequired n f a b (span n b x) x
 
--- Theorem 2.10 as the source words it: (c) leaves trivial privileged cubes out.
+-- The privileged cube, with its start point, that the source gives a transition from a to b: for 1 to 0 [a,b] with a, for 0 to 1 [a,b]
+-- with b, and no others.
+pub data SourcePrivileged (n : ℕ) (f : List ℕ) (a b : ℕ) : Cube → ℕ → Type 0 where
+  falls : value f a ≡ 1 → value f b ≡ 0 → SourcePrivileged n f a b (span n a b) a
+  rises : value f a ≡ 0 → value f b ≡ 1 → SourcePrivileged n f a b (span n a b) b
+
+-- The source's OFF-set: the points at which f is 0.
+abbrev pub SourceOff : ℕ → List ℕ → ℕ → Type 0
+SourceOff n f x = (x < 2 ^ n) × (value f x ≡ 0)
+
+-- A trivial privileged cube q with start point s: f is 1 at s and 0 at all its other points.
+pub record Trivial (n : ℕ) (f : List ℕ) (q : Cube) (s : ℕ) : Type 0 where
+  pub one : value f s ≡ 1
+  pub rest : (x : ℕ) → x < 2 ^ n → T (has q x) → x ≢ s → value f x ≡ 0
+
+-- Theorem 2.10 as the source words it: (a) no product contains a point of the OFF-set; (b) each required cube lies in a single product;
+-- (c) a product that shares a point with a privileged cube, if that is not trivial, contains its start point.
 pub record SourceCover (n : ℕ) (f ts : List ℕ) (net : Network) : Type 0 where
-  pub a : (p : Cube) → List·Memᴰ p net → (x : ℕ) → x < 2 ^ n → T (off f x) → ¬ T (has p x)
-  pub b : (r : Required) → List·Memᴰ r (required n f ts) → T (covered net (r .cube))
-  pub c : (p : Cube) → List·Memᴰ p net → (v : Privileged) → List·Memᴰ v (privileged n f ts) → ¬ Trivial n f v → ¬ T (illegal p v)
+  pub a : (p : Cube) → List·Memᴰ p net → (x : ℕ) → SourceOff n f x → ¬ T (has p x)
+  pub b : (k : ℕ) → k < count ts → (q : Cube) (x : ℕ) → SourceRequired n f (start ts k) (end ts k) q x → (p : Cube) × List·Memᴰ p net × T (inside q p)
+  pub c : (p : Cube) → List·Memᴰ p net → (k : ℕ) → k < count ts → (q : Cube) (s : ℕ) → SourcePrivileged n f (start ts k) (end ts k) q s → ¬ Trivial n f q s
+      → T (meets p q) → T (has p s)
