@@ -1,19 +1,24 @@
 -- Problems that meet the hypotheses of the theorems.
-use mathlib.Core.Path.{_≡_, refl, sym}
-use mathlib.Core.List.{List, [], _∷_}
+use mathlib.Core.Path.{_≡_, refl, sym, subst⁻¹}
+use mathlib.Core.List.{List, [], _∷_, List·Memᴰ·eq-of-singleton}
 use Prim.Native.Nat.{ℕ}
 use native.Mathlib.Omega.{arith}
+use lib.Dec.{T}
 use Rattle.hazard.specs.Transition.{off}
-use Rattle.hazard.specs.Sets.{privileged}
-use Rattle.hazard.specs.Growth.{Legal, Blocked, grow}
+use Rattle.hazard.specs.Sets.{Required, privileged}
+use Rattle.hazard.specs.Implicant.{dhfImplicant, StrictlyInside}
+use Rattle.hazard.specs.Growth.{Legal, Blocked, Grown, grow}
 use Rattle.hazard.specs.Cover.{Network, WellFormed}
 use Rattle.hazard.specs.HazardFree.{HazardFree}
 use Rattle.hazard.specs.Refusal.{Accepted}
 use Rattle.hazard.specs.Verdict.{products, passed, uncovered}
+use Rattle.hazard.specs.Minimal.{FirstBlocking}
 use Rattle.hazard.specs.Pieces.{net5}
 use Rattle.hazard.proofs.Search.{none-some}
 use Rattle.hazard.proofs.Verdict.{checked-passed}
+use Rattle.hazard.proofs.Meaning.{inside-points}
 use Rattle.hazard.proofs.Minimal.{exists-iff}
+use Rattle.hazard.proofs.Promise.{promise-refused}
 
 -- The table and transitions of K4, and of K7.
 abbrev table4 : List ℕ
@@ -39,6 +44,32 @@ hazardous-network h = let e : uncovered 0 7 ≡ passed = checked-passed 3 table4
 -- K7: a table and transitions, free of function hazards, with no hazard-free network.
 pub no-network : Accepted 3 table7 transitions7 × (¬ ((net : Network) × WellFormed 3 net × HazardFree 3 table7 transitions7 net))
 no-network = (refl, λ h. none-some (sym (exists-iff 3 table7 transitions7 refl .1 h)))
+
+-- K7: its refusal, as the promise has it, is that of the first cube that blocks.
+pub first-blocks : FirstBlocking 3 table7 transitions7 (record { number = 10; transition = 0; point = 3; steps = 1; lowest = 7; product = 0 })
+first-blocks = promise-refused 3 table7 transitions7 (0 ∷ 0 ∷ 0 ∷ 0 ∷ 0 ∷ 0 ∷ 0 ∷ 0 ∷ 0 ∷ 0 ∷ 0 ∷ 0 ∷ []) refl .blocks _ refl refl
+
+-- With a transition before those of K7: its required cube grows legal, and the second blocks.
+pub second-blocks : FirstBlocking 3 table7 (2 ∷ 2 ∷ transitions7) (record { number = 10; transition = 1; point = 3; steps = 1; lowest = 7; product = 0 })
+second-blocks =
+    record {
+      earlier = record { transition = 0; label = 2; cube = 0 ∷ 1 ∷ 0 ∷ [] } ∷ [];
+      cube = record { transition = 1; label = 3; cube = 2 ∷ 1 ∷ 0 ∷ [] };
+      later =
+          record { transition = 1; label = 6; cube = 0 ∷ 1 ∷ 2 ∷ [] }
+          ∷ record { transition = 2; label = 2; cube = 0 ∷ 1 ∷ 2 ∷ [] }
+          ∷ record { transition = 2; label = 4; cube = 0 ∷ 2 ∷ 1 ∷ [] }
+          ∷ [];
+      listed = refl;
+      free = λ r m. subst⁻¹ (λ (q : Required). Grown (grow 3 (off table7) (privileged 3 table7 (2 ∷ 2 ∷ transitions7)) (q .cube))) (List·Memᴰ·eq-of-singleton m) tt;
+      blocks = refl;
+      taken = omega arith;
+      few = omega arith;
+    }
+
+-- K4: a dhf-implicant with a product strictly inside it, which is in no minimal network.
+pub strictly-inside : T (dhfImplicant 3 (off table4) (privileged 3 table4 transitions4) (1 ∷ 1 ∷ 2 ∷ [])) × StrictlyInside 3 (1 ∷ 1 ∷ 1 ∷ []) (1 ∷ 1 ∷ 2 ∷ [])
+strictly-inside = (tt, record { within = inside-points 3 (1 ∷ 1 ∷ 1 ∷ []) (1 ∷ 1 ∷ 2 ∷ []) tt tt .0 tt; more = (3, omega arith, tt, λ t. t) })
 
 -- Two privileged cubes are met illegally, and the first gives its start point first: two steps. The other order would take one.
 abbrev tableA : List ℕ

@@ -19,9 +19,10 @@ use Rattle.hazard.specs.Growth.{Growth, Legal, Blocked, steps, Grown, gr
 use Rattle.hazard.specs.Cover.{Network, productAt, WellFormed, covered, without, Own, Irredundant, HazardFreeCover}
 use Rattle.hazard.specs.HazardFree.{HazardFree}
 use Rattle.hazard.specs.Refusal.{Refusal, Accepted}
-use Rattle.hazard.specs.Minimal.{blockedBy, blockCheck, blocking, Minimal}
+use Rattle.hazard.specs.Minimal.{blockedBy, blockCheck, blocking, FirstBlocking, Minimal}
 use Rattle.hazard.proofs.Test.{tests, or-l, or-r, or-e, T-no, sure}
-use Rattle.hazard.proofs.Search.{none-some, none-first, firstOf-map, firstOf-some, Find, missing, hit, find-is}
+use Rattle.hazard.proofs.Search.{none-some, none-first, firstOf-map, firstOf-split, firstOf-some, Find, missing, hit, find-is}
+use Rattle.hazard.proofs.Meaning.{inside-points}
 use Rattle.hazard.proofs.Sets.{privileged-wide, required-digits}
 use Rattle.hazard.proofs.Network.{covered-by}
 use Rattle.hazard.proofs.Implicant.{Wide, prime-is}
@@ -102,6 +103,22 @@ module _ (n : ℕ) (f ts : List ℕ) where
         go r (Legal c s) u l k h = none-some h
         go r (Blocked z s) u l k h = let e : s ≡ q .steps = ap (λ (x : Refusal). x .steps) (Option·some-injective _ _ h) in (omega (arith, blocked-later n (off f) vs k u), omega arith)
 
+    -- The cube that blocks is the first that does.
+    pub first-blocking : (q : Refusal) → blocking n f ts ≡ some q → FirstBlocking n f ts q
+    first-blocking q e =
+        let s = firstOf-split (blockCheck n (off f) (privileged n f ts)) (required n f ts) e in
+        let (l, h) = block-steps q e in
+        record {
+          earlier = s .earlier;
+          cube = s .entry;
+          later = s .later;
+          listed = s .parts;
+          free = λ r m. block-none n (off f) (privileged n f ts) r .0 (s .before r m);
+          blocks = s .here;
+          taken = l;
+          few = h;
+        }
+
     -- Dhf-primes that cover every required cube, each with one of its own, meet the whole of demand 3.
     pub minimal : (net : Network) → ((p : Cube) → List·Memᴰ p net → DhfPrime n (off f) (privileged n f ts) p) → ((r : Required) → List·Memᴰ r (required n f ts) → T (covered net (r .cube)))
         → Irredundant (required n f ts) net → length net ≤ length (required n f ts) → Minimal n f ts net
@@ -113,6 +130,9 @@ module _ (n : ℕ) (f ts : List ℕ) where
           irredundant = λ j l q. let o = own j l in
               o .alone (cover-hazard-free n f ts (without j net) accepted (λ p m. good p (without-member j net m)) .1 q .b (o .cube) (o .listed));
           few = few;
+          maximal = λ p m q w d s.
+              let (x, l, i, j) = s .more in
+              let u = primes p m .maximal q w d (inside-points n p q (good p m) w .1 (s .within)) in j (inside-points n q p w (good p m) .0 u x l i);
         }
       where
         good : WellFormed n net

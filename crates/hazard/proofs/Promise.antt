@@ -11,8 +11,8 @@ use Rattle.hazard.specs.Cover.{Network}
 use Rattle.hazard.specs.Refusal.{Refusal, inputChecks, Accepted}
 use Rattle.hazard.specs.Minimal.{roomCheck, blocking, minimiserChecks, Minimal, Minimised, written, declined, bytesOf, NoNetwork, Promise}
 use Rattle.hazard.proofs.Search.{none-some, firstOf-append, firstOf-right, firstOf-one}
-use Rattle.hazard.proofs.Numbers.{block-number}
-use Rattle.hazard.proofs.Minimal.{exists-iff}
+use Rattle.hazard.proofs.Numbers.{block-number, ten-blocks}
+use Rattle.hazard.proofs.Minimal.{exists-iff, first-blocking}
 
 module _ (n : ℕ) (f ts before : List ℕ) where
   abbrev early : List (Option Refusal)
@@ -33,7 +33,13 @@ module _ (n : ℕ) (f ts before : List ℕ) where
         network = λ h. none-some (sym h ∙ e);
         none· = λ h. let b : blocking n f ts ≡ some q = sym (checks-end h) ∙ e in
             (λ d m. none-some (sym (exists-iff n f ts (early-accepted h) .1 m) ∙ b), λ m. (q, refl, block-number n f ts q b));
+        blocks = λ p d k.
+            let h : firstOf (minimiserChecks n f ts (length before)) ≡ some p = e ∙ ap some (same d) in
+            let (a, b) = ten-blocks n f ts (length before) h k in first-blocking n f ts (early-accepted a) p b;
       }
+    where
+      same : {p : Refusal} → declined q ≡ declined p → q ≡ p
+      same d = cc
 
   -- A minimal network, written.
   pub promise-written : {after : List ℕ} (net : Network) → firstOf (minimiserChecks n f ts (length before)) ≡ none → Minimal n f ts net → after ≡ bytesOf net ++ drop (n * length net) before
@@ -43,6 +49,7 @@ module _ (n : ℕ) (f ts before : List ℕ) where
         refused = λ p h. none-some (sym e ∙ h);
         network = λ h. (net, refl, m, w);
         none· = λ h. (λ d. never d, λ k. absurd (k (net, λ p u. m .primes p u .product, m .hazardFree)));
+        blocks = λ q d k. never (q, d, k);
       }
     where
       never : {C : Type 0} → (q : Refusal) × (written (length net) ≡ declined q) × (q .number ≡ 10) → C

@@ -1,8 +1,8 @@
 -- What the searches find.
-use mathlib.Core.Path.{_≡_, refl, sym, _∙_, subst, subst⁻¹}
+use mathlib.Core.Path.{_≡_, refl, sym, ap, _∙_, subst, subst⁻¹}
 use mathlib.Core.Logic.{_↔_, inl, inr, ∥∥₁-elim}
 use mathlib.Core.Bool.{Bool, true, false}
-use mathlib.Core.List.{List, [], _∷_, _++_, map, List·Memᴰ, List·Memᴰ·head, List·Memᴰ·tail, List·Memᴰ·not-nil, List·Memᴰ·cases-cons, Pairwise, Pairwise·nil, Pairwise·cons}
+use mathlib.Core.List.{List, [], _∷_, _++_, map, List·Memᴰ, List·Memᴰ·head, List·Memᴰ·tail, List·Memᴰ·not-nil, List·Memᴰ·cases-cons, Memᴰ·append-right, Pairwise, Pairwise·nil, Pairwise·cons}
 use mathlib.Core.Option.{Option, none, some}
 use Prim.Native.Nat.{ℕ, zero, suc, _+_, _≤_, _<_}
 use native.Mathlib.Omega.{arith}
@@ -187,11 +187,34 @@ firstOf-map {A} {B} look (b ∷ l) = go (look b) refl (firstOf-map look l)
     go none q next = (λ e a m. elim (List·Memᴰ·cases-cons m) [ inl c ↦ rw (c, q) | inr n ↦ next .0 e a n ], λ h. next .1 (λ a m. h a (List·Memᴰ·tail m)))
     go (some c) q next = (λ e. none-some (sym e), λ h. none-some (sym (h b (List·Memᴰ·head refl)) ∙ q))
 
-pub firstOf-some : {A B : Type 0} (look : A → Option B) (l : List A) {b : B} → firstOf (map look l) ≡ some b → (a : A) × List·Memᴰ a l × (look a ≡ some b)
-firstOf-some look [] e = none-some e
-firstOf-some {A} {B} look (c ∷ l) {b} e = go (look c) refl e (firstOf-some look l)
+-- What is found comes from an entry before which the look finds nothing.
+pub record Split {A B : Type 0} (look : A → Option B) (l : List A) (b : B) : Type 0 where
+  pub earlier : List A
+  pub entry : A
+  pub later : List A
+  pub parts : l ≡ earlier ++ (entry ∷ later)
+  pub before : (a : A) → List·Memᴰ a earlier → look a ≡ none
+  pub here : look entry ≡ some b
+
+pub firstOf-split : {A B : Type 0} (look : A → Option B) (l : List A) {b : B} → firstOf (map look l) ≡ some b → Split look l b
+firstOf-split look [] e = none-some e
+firstOf-split {A} {B} look (c ∷ l) {b} e = go (look c) refl e (firstOf-split look l)
   where
     go : (o : Option B) → look c ≡ o → _≡_ {A = Option B} (elim o [ some d ↦ some d | none ↦ firstOf (map look l) ]) (some b)
-        → (firstOf (map look l) ≡ some b → (a : A) × List·Memᴰ a l × (look a ≡ some b)) → (a : A) × List·Memᴰ a (c ∷ l) × (look a ≡ some b)
-    go none q e next = let (a, m, h) = next e in (a, List·Memᴰ·tail m, h)
-    go (some d) q e next = (c, List·Memᴰ·head refl, q ∙ e)
+        → (firstOf (map look l) ≡ some b → Split look l b) → Split look (c ∷ l) b
+    go none q e next =
+        let s = next e in
+        record {
+          earlier = c ∷ s .earlier;
+          entry = s .entry;
+          later = s .later;
+          parts = ap (λ (t : List A). c ∷ t) (s .parts);
+          before = λ a m. elim (List·Memᴰ·cases-cons m) [ inl h ↦ rw (h, q) | inr u ↦ s .before a u ];
+          here = s .here;
+        }
+    go (some d) q e next = record { earlier = []; entry = c; later = l; parts = refl; before = λ a m. absurd (List·Memᴰ·not-nil m); here = q ∙ e }
+
+pub firstOf-some : {A B : Type 0} (look : A → Option B) (l : List A) {b : B} → firstOf (map look l) ≡ some b → (a : A) × List·Memᴰ a l × (look a ≡ some b)
+firstOf-some {A} look l e =
+    let s = firstOf-split look l e in
+    (s .entry, subst⁻¹ (λ (t : List A). List·Memᴰ (s .entry) t) (s .parts) (Memᴰ·append-right (s .earlier) (List·Memᴰ·head refl)), s .here)

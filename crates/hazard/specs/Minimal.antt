@@ -5,14 +5,14 @@ use mathlib.Core.Bool.{Bool}
 use mathlib.Core.List.{List, [], _∷_, _++_, map, List·Memᴰ}
 use mathlib.Core.Option.{Option, none, some}
 use Prim.Native.Nat.{ℕ, _*_, _≤_, _<_}
-use lib.Dec.{ltb}
+use lib.Dec.{T, ltb}
 use lib.ListN.{length, drop}
 use Rattle.hazard.specs.Search.{firstOf}
-use Rattle.hazard.specs.Cube.{Cube}
+use Rattle.hazard.specs.Cube.{Cube, isProduct}
 use Rattle.hazard.specs.Transition.{off}
 use Rattle.hazard.specs.Sets.{Required, Privileged, required, privileged}
-use Rattle.hazard.specs.Implicant.{DhfPrime}
-use Rattle.hazard.specs.Growth.{Growth, Legal, Blocked, grow}
+use Rattle.hazard.specs.Implicant.{dhfImplicant, DhfPrime, StrictlyInside}
+use Rattle.hazard.specs.Growth.{Growth, Legal, Blocked, Grown, grow}
 use Rattle.hazard.specs.Cover.{Network, WellFormed, without, HazardFreeCover}
 use Rattle.hazard.specs.HazardFree.{HazardFree}
 use Rattle.hazard.specs.Refusal.{Refusal, refuseIf, inputChecks}
@@ -38,6 +38,17 @@ module _ (n : ℕ) (f ts : List ℕ) where
   abbrev pub minimiserChecks : ℕ → List (Option Refusal)
   minimiserChecks room = inputChecks n f ts ++ (roomCheck room ∷ blocking ∷ [])
 
+-- Refusal 10 is that of the first required cube that blocks: no earlier one does, and its growth took at least one step and at most n.
+pub record FirstBlocking (n : ℕ) (f ts : List ℕ) (q : Refusal) : Type 0 where
+  pub earlier : List Required
+  pub cube : Required
+  pub later : List Required
+  pub listed : required n f ts ≡ earlier ++ (cube ∷ later)
+  pub free : (r : Required) → List·Memᴰ r earlier → Grown (grow n (off f) (privileged n f ts) (r .cube))
+  pub blocks : blockCheck n (off f) (privileged n f ts) cube ≡ some q
+  pub taken : 1 ≤ q .steps
+  pub few : q .steps ≤ n
+
 -- What holds of the minimiser's network: every product is a dhf-prime, the network is a hazard-free cover and hazard-free,
 -- no product can be dropped, and there are at most as many as required cubes.
 pub record Minimal (n : ℕ) (f ts : List ℕ) (net : Network) : Type 0 where
@@ -46,6 +57,8 @@ pub record Minimal (n : ℕ) (f ts : List ℕ) (net : Network) : Type 0 where
   pub hazardFree : HazardFree n f ts net
   pub irredundant : (j : ℕ) → j < length net → ¬ HazardFree n f ts (without j net)
   pub few : length net ≤ length (required n f ts)
+  -- By points: no product is strictly inside a dhf-implicant.
+  pub maximal : (p : Cube) → List·Memᴰ p net → (q : Cube) → T (isProduct n q) → T (dhfImplicant n (off f) (privileged n f ts) q) → ¬ StrictlyInside n p q
 
 -- The bytes of a network, product after product.
 abbrev pub bytesOf : Network → List ℕ
@@ -70,3 +83,5 @@ pub record Promise (n : ℕ) (f ts before after : List ℕ) (r : Minimised) : Ty
       → (net : Network) × (r ≡ written (length net)) × Minimal n f ts net × (after ≡ bytesOf net ++ drop (n * length net) before)
   -- Where checks 1 to 9 let it through: refusal 10 exactly if there is no hazard-free network.
   pub none· : firstOf (inputChecks n f ts ++ (roomCheck n f ts (length before) ∷ [])) ≡ none → ((q : Refusal) × (r ≡ declined q) × (q .number ≡ 10)) ↔ NoNetwork n f ts
+  -- Refusal 10 names the first required cube that blocks, and the steps of its growth.
+  pub blocks : (q : Refusal) → r ≡ declined q → q .number ≡ 10 → FirstBlocking n f ts q
