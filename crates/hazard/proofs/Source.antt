@@ -1,4 +1,4 @@
--- Our sets are the source's: the labels, the required cubes, the privileged cubes, the OFF-set; so are the rules of the kinds and the conditions of a cover.
+-- Our sets, the rules of the kinds and the conditions of a cover are the source's.
 use mathlib.Core.Path.{_≡_, refl, sym, ap, _∙_, subst, subst⁻¹}
 use mathlib.Core.Logic.{_≢_, _↔_, inl, inr}
 use mathlib.Core.Bool.{Bool, _&&_}

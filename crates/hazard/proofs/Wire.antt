@@ -207,7 +207,7 @@ module _ (a b : ℕ) where
     pub literal : dig (productAt net (w .product)) (w .input) ≢ 2
     pub moving : bit a (w .input) ≢ bit b (w .input)
 
-  -- A network has the wire of each of these once, so a run moves it once.
+  -- It stands once among the network's wires, so a run moves it once.
   pub times-literal : (net : Network) (w : Wire) → Literal net w → times (wires a b 0 net) w ≡ 1
   times-literal net w h = omega (
     arith,
