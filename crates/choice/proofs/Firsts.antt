@@ -1,23 +1,20 @@
 -- The first product that contains a cube, and what the products before it cover.
-use mathlib.Core.Path.{_≡_, refl, sym, ap, _∙_}
-use mathlib.Core.Logic.{_⊎_, inl, inr}
-use mathlib.Core.Bool.{Bool, true, false, cond}
+use mathlib.Core.Path.{_≡_, refl, ap, _∙_}
+use mathlib.Core.Bool.{Bool, true, false, _||_}
 use mathlib.Core.List.{List, [], _∷_, _++_, map}
 use mathlib.Core.Option.{Option, none, some, Option·some-injective}
 use Prim.Native.Nat.{ℕ, zero, suc, _+_, _≤_, _<_}
 use native.Mathlib.Nat.{not-suc-le-zero, le-of-suc-le-suc}
 use native.Mathlib.Omega.{arith}
-use native.Mathlib.Decide.{ℕ-discrete}
-use lib.Dec.{T, eqb, eqb→eq}
+use lib.Dec.{T}
 use lib.ListN.{length, getD, take, length-take, length-append, List·getD-append}
 use lib.Seq.{take-suc, getD-take, take-append-seam, take-append-le, getD-append-seam}
 use Rattle.hazard.specs.Cube.{Cube, inside}
 use Rattle.hazard.specs.Cover.{Network, productAt, covered}
-use Rattle.hazard.proofs.Search.{none-some, First, nowhere, lowest, first-is, first-none, none-first}
-use Rattle.hazard.proofs.Test.{is, isnt, known, cond-no}
+use Rattle.hazard.proofs.Search.{none-some, First, nowhere, lowest, first-is}
 use Rattle.hazard.proofs.Network.{covered-e, covered-i}
 use Rattle.choice.specs.Network.{cubeIn, networkIn}
-use Rattle.choice.specs.First.{firstIn, placeOf, noteOf}
+use Rattle.choice.specs.First.{firstIn}
 
 -- A map, part by part.
 pub map-take : {A B : Type 0} (f : A → B) (j : ℕ) (l : List A) → map f (take j l) ≡ take j (map f l)
@@ -69,26 +66,9 @@ module _ (net : Network) (c : Cube) where
           high : ¬ (j < k)
           high p = h j (omega arith) p t
 
-  -- Where there is a first one, the network covers the cube; where there is none, it does not.
+  -- Where there is a first one, the network covers the cube.
   pub some-covered : {j : ℕ} → firstIn net c ≡ some j → T (covered net c)
   some-covered {j} e = let (l, t, u) = first-covered e in covered-i net c j l t
-
-  pub none-covered : firstIn net c ≡ none → ¬ T (covered net c)
-  none-covered e t = let (j, l, u) = covered-e net c t in first-none (λ k. inside c (productAt net k)) 0 (length net) e j (omega arith) (omega arith) u
-
--- A number is noted as a place, or as none.
-pub place-small : (v : ℕ) → v < 65535 → placeOf v ≡ some v
-place-small v h = cond-no (eqb v 65535) none (some v) (λ t. let e = eqb→eq v 65535 t in omega arith)
-
-pub place-none : (v : ℕ) → v ≡ 65535 → placeOf v ≡ none
-place-none v e = rw e
-
-pub place-is : (v : ℕ) {j : ℕ} → placeOf v ≡ some j → v ≡ j
-place-is v {j} e = go (eqb v 65535) e
-  where
-    go : (b : Bool) → cond b none (some v) ≡ some j → v ≡ j
-    go true e = none-some e
-    go false e = Option·some-injective v j e
 
 -- One product more: a place in the products before, then the new one.
 product-front : (net : Network) (p : Cube) (j : ℕ) → j < length net → productAt (net ++ (p ∷ [])) j ≡ productAt net j
@@ -97,31 +77,26 @@ product-front net p j h = List·getD-append net (p ∷ []) [] j h
 product-last : (net : Network) (p : Cube) → productAt (net ++ (p ∷ [])) (length net) ≡ p
 product-last net p = getD-append-seam net p [] []
 
--- The note of a cube, once one product more has come, is its first product among them.
-pub note-first : (net : Network) (p c : Cube) (v : ℕ) → length net < 65535 → placeOf v ≡ firstIn net c → placeOf (noteOf v (inside c p) (length net)) ≡ firstIn (net ++ (p ∷ [])) c
-note-first net p c v h e = go (ℕ-discrete v 65535) (known (inside c p))
+module _ (net : Network) (p c : Cube) where
+  long : length (net ++ (p ∷ [])) ≡ length net + 1
+  long = length-append net (p ∷ [])
+
+  -- Once one product more has come, the first product is as it was, where there was one,
+  pub first-before : {v : ℕ} → firstIn net c ≡ some v → firstIn (net ++ (p ∷ [])) c ≡ some v
+  first-before {v} e =
+      let (l, i, u) = first-covered net c e in
+      covered-first (net ++ (p ∷ [])) c v (omega (arith, long)) (rw (product-front net p v l) i) (λ w. u (rw (take-append-le v net (p ∷ []) (omega arith)) at w))
+
+  -- and else the new one, where that contains the cube.
+  pub first-new : ¬ T (covered net c) → T (inside c p) → firstIn (net ++ (p ∷ [])) c ≡ some (length net)
+  first-new n t = covered-first (net ++ (p ∷ [])) c (length net) (omega (arith, long)) (rw (product-last net p) t) (λ w. n (rw (take-append-seam net (p ∷ [])) at w))
+
+-- What one product more covers.
+pub covered-last : (net : Network) (p c : Cube) → covered (net ++ (p ∷ [])) c ≡ (inside c p || covered net c)
+covered-last [] p c = refl
+covered-last (q ∷ net) p c = ap (λ (b : Bool). inside c q || b) (covered-last net p c) ∙ swap (inside c q) (inside c p) (covered net c)
   where
-    long : length (net ++ (p ∷ [])) ≡ length net + 1
-    long = length-append net (p ∷ [])
-
-    take-net : take (length net) (net ++ (p ∷ [])) ≡ net
-    take-net = take-append-seam net (p ∷ [])
-
-    go : Dec (v ≡ 65535) → T (inside c p) ⊎ (¬ T (inside c p)) → placeOf (noteOf v (inside c p) (length net)) ≡ firstIn (net ++ (p ∷ [])) c
-    go (no q) t =
-        let a : firstIn net c ≡ some v = sym e ∙ cond-no (eqb v 65535) none (some v) (λ u. q (eqb→eq v 65535 u)) in
-        let (l, i, u) = first-covered net c a in
-        ap placeOf (cond-no (eqb v 65535) (cond (inside c p) (length net) v) v (λ u. q (eqb→eq v 65535 u)))
-        ∙ e ∙ a ∙ sym (covered-first (net ++ (p ∷ [])) c v (omega (arith, long)) (rw (product-front net p v l) i) (λ w. u (rw (take-append-le v net (p ∷ []) (omega arith)) at w)))
-    go (yes q) (inl t) =
-        let n = none-covered net c (sym e ∙ place-none v q) in
-        rw (q, is {b = inside c p} t) (place-small (length net) h ∙ sym (covered-first (net ++ (p ∷ [])) c (length net) (omega (arith, long)) (rw (product-last net p) t) (λ w. n (rw take-net at w))))
-    go (yes q) (inr t) =
-        let n = none-covered net c (sym e ∙ place-none v q) in
-        rw (q, isnt (inside c p) t) (sym (none-first (λ k. inside c (productAt (net ++ (p ∷ [])) k)) 0 (length (net ++ (p ∷ []))) (λ k a b u. past k (omega (arith, long)) u n)))
-      where
-        past : (k : ℕ) → k < length net + 1 → T (inside c (productAt (net ++ (p ∷ [])) k)) → ¬ T (covered net c) → ⊥
-        past k b u n = elim (ℕ-discrete k (length net)) [
-          | yes g ↦ t (rw (g, product-last net p) at u)
-          | no g ↦ n (covered-i net c k (omega arith) (rw (product-front net p k (omega arith)) at u))
-        ]
+    swap : (a b d : Bool) → (a || (b || d)) ≡ (b || (a || d))
+    swap true true d = refl
+    swap true false d = refl
+    swap false b d = refl

@@ -1,6 +1,6 @@
 pub mod Firsts
-pub mod Noting
-pub mod Coming
+pub mod Placing
+pub mod Flags
 pub mod Covering
 pub mod Choosing
 pub mod Keeping

@@ -1,25 +1,24 @@
 -- What the choice is handed, and what it leaves.
 use mathlib.Core.Path.{_≡_}
-use mathlib.Core.Bool.{Bool, _&&_}
+use mathlib.Core.Bool.{Bool, false, not, _&&_}
 use mathlib.Core.List.{List, map, List·Memᴰ}
+use mathlib.Core.Option.{some}
 use Prim.Native.Nat.{ℕ, _≤_, _<_}
 use lib.Dec.{T, eqb}
 use lib.ListN.{length, getD, drop}
 use Rattle.hazard.specs.Sets.{Required}
 use Rattle.hazard.specs.Cover.{covered, Irredundant}
 use Rattle.cube.specs.Entry.{requiredIn}
-use Rattle.cube.specs.PointSet.{inSet}
 use Rattle.choice.specs.Network.{cubeIn, networkIn}
-use Rattle.choice.specs.First.{firstIn, placeOf}
+use Rattle.choice.specs.First.{firstIn}
 
--- Required cube i has product j for its first, and is in the set.
-abbrev pub neededIn : List ℕ → List ℕ → ℕ → ℕ → Bool
-neededIn firsts unmet j i = eqb (getD firsts i 0) j && inSet unmet i
+-- Required cube i has product j for its first, and its flag is not set.
+abbrev pub neededIn : List ℕ → List Bool → ℕ → ℕ → Bool
+neededIn firsts flags j i = eqb (getD firsts i 0) j && not (getD flags i false)
 
--- For each required cube its first product is noted; every one has one, and there are no more products than required cubes.
+-- For each required cube the place of its first product is noted, and there are no more products than required cubes.
 pub record Noted (n : ℕ) (required firsts products : List ℕ) : Type 0 where
-  pub each : (i : ℕ) → i < length required → placeOf (getD firsts i 0) ≡ firstIn (networkIn n products) (cubeIn n (getD required i 0))
-  pub covers : (i : ℕ) → i < length required → T (covered (networkIn n products) (cubeIn n (getD required i 0)))
+  pub each : (i : ℕ) → i < length required → firstIn (networkIn n products) (cubeIn n (getD required i 0)) ≡ some (getD firsts i 0)
   pub whole : length firsts ≡ length required
   pub many : length required ≤ 2048
   pub few : length products ≤ length required

@@ -1,4 +1,5 @@
 pub mod Network
 pub mod Rows
 pub mod First
+pub mod Flag
 pub mod Keep

@@ -1,6 +1,6 @@
 -- The cubes and networks that packed words stand for.
 use mathlib.Core.List.{List, map}
-use Prim.Native.Nat.{ℕ, _<_, _^_}
+use Prim.Native.Nat.{ℕ}
 use Rattle.hazard.specs.Cube.{Cube}
 use Rattle.hazard.specs.Cover.{Network}
 use Rattle.cube.specs.Mask.{digitsOf}
@@ -11,7 +11,3 @@ cubeIn n w = digitsOf n (careIn w) (valueIn w)
 
 abbrev pub networkIn : ℕ → List ℕ → Network
 networkIn n ws = map (cubeIn n) ws
-
--- The word's cube has literals of the n inputs only.
-abbrev pub Small : ℕ → ℕ → Type 0
-Small n w = careIn w < 2 ^ n

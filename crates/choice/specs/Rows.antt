@@ -1,7 +1,9 @@
--- Packed words as the rows of columns.
-use Prim.Native.Nat.{ℕ}
+-- Packed words as the rows of columns, and rows in a word of a set.
+use mathlib.Core.Bool.{Bool, _&&_}
 use mathlib.Core.List.{List}
-use Rattle.hazard.specs.Cube.{inside}
+use Prim.Native.Nat.{ℕ, _/_, _%_}
+use lib.Dec.{eqb}
+use Rattle.hazard.specs.Cube.{bit, inside}
 use Rattle.blocks.specs.Blocks.{Blocks}
 use Rattle.choice.specs.Network.{cubeIn}
 
@@ -12,3 +14,7 @@ Inside n rows columns = Blocks (λ w c. inside (cubeIn n w) c) n rows columns
 -- The columns tell which of the words' cubes contain a cube.
 abbrev pub Containing : ℕ → List ℕ → List ℕ → Type 0
 Containing n rows columns = Blocks (λ w c. inside c (cubeIn n w)) n rows columns
+
+-- Row i stands in word b of a set.
+abbrev pub inWord : ℕ → ℕ → ℕ → Bool
+inWord b word i = eqb (i / 64) b && eqb (bit word (i % 64)) 1

@@ -1,19 +1,19 @@
 use Prim.Native.Nat.{_-_}
 use lib.ListN.{length}
 use native.Mathlib.Omega.{arith}
-use Rattle.choice.proofs.Noting.{Marking, marking-start, marking-word, marking-step, marking-end}
+use Rattle.choice.proofs.Placing.{Placed, placed-start, placed-word, placed-step, placed-end}
 use borrow.Author.Needs.{needs}
 use Rattle.choice.proofs.first.note.Statement.{statement}
 use Rattle.choice.proofs.first.note.Tie as tie
 
 abbrev Inv-loop : tie.InvT-loop
-Inv-loop firsts₀ set j b₀ firsts b = Marking set j firsts₀ firsts b
+Inv-loop firsts₀ set j b₀ firsts b = Placed 0 set j firsts₀ firsts b
 
 abbrev μ-loop : tie.MeasureT-loop
 μ-loop firsts₀ set j b₀ firsts b = length set - b
 
 loop-holds : tie.Need-loop-holds Inv-loop μ-loop
-loop-holds c = marking-start _ _ _
+loop-holds c = placed-start _ _ _ _
 
 mul-note-word : tie.Need-mul-note-word Inv-loop μ-loop
 mul-note-word c = search needs
@@ -25,7 +25,7 @@ note-word-requires : tie.Need-note-word-requires Inv-loop μ-loop
 note-word-requires c κs =
     let s = c .before .before .before .before .before .before in
     let l = c .before .before .before .loop in
-    (omega (arith, s .pre .0), λ i t. rw (l .inv .long) (s .pre .1 i (marking-word (l .inv) i t)))
+    (omega (arith, s .pre .0), λ i t. rw (l .inv .long) (s .pre .1 i (placed-word (l .inv) i t)))
 
 add-b : tie.Need-add-b Inv-loop μ-loop
 add-b c = search needs
@@ -34,13 +34,13 @@ loop-less : tie.Need-loop-less Inv-loop μ-loop
 loop-less c = search needs
 
 loop-again : tie.Need-loop-again Inv-loop μ-loop
-loop-again c = marking-step (c .before .before .before .before .before .before .loop .inv) (omega arith) (c .before .before .note-word .last .0) (c .before .before .note-word .kept .0) (c .before .before .note-word .ensures)
+loop-again c = placed-step (c .before .before .before .before .before .before .loop .inv) (omega arith) (c .before .before .note-word .last .0) (c .before .before .note-word .kept .0) (c .before .before .note-word .ensures)
 
 same-length : tie.Need-same-length Inv-loop μ-loop
 same-length c = c .before .loop .inv .long
 
 returns : tie.Need-returns Inv-loop μ-loop
-returns c = marking-end (c .before .loop .inv) (omega arith)
+returns c = placed-end (c .before .loop .inv) (omega arith)
 
 pub note-spec : {M : Type 1} → statement M
 note-spec =

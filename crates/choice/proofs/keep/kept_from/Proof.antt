@@ -1,21 +1,22 @@
-use mathlib.Core.Path.{refl}
-use Rattle.choice.proofs.Keeping.{split-off}
-use Rattle.choice.specs.Network.{cubeIn}
-use Rattle.cube.specs.Mask.{cubeOf}
-use mathlib.Core.Path.{_≡_, sym, _∙_}
-use Prim.Native.Nat.{_-_}
+use mathlib.Core.Path.{_≡_, refl, sym, _∙_}
+use mathlib.Core.Bool.{false}
+use Prim.Native.Nat.{_-_, _*_, _≤_}
 use native.Mathlib.Omega.{arith}
-use lib.ListN.{length, getD}
+use lib.ListN.{length, getD, length-replicate}
+use Rattle.cube.specs.Mask.{cubeOf}
+use Rattle.choice.specs.Network.{cubeIn}
+use Rattle.choice.specs.Flag.{Unflagged}
+use Rattle.choice.proofs.Flags.{unflagged-start, unflagged-low, flag-is, unflagged-next, product-test}
 use Rattle.choice.proofs.Keeping.{Keeping, keeping-start, keeping-turn, keeping-skip, keeping-keep, keeping-end}
 use borrow.Author.Needs.{needs}
 use Rattle.choice.proofs.keep.kept_from.Statement.{statement}
 use Rattle.choice.proofs.keep.kept_from.Tie as tie
 
 abbrev Inv-loop : tie.InvT-loop
-Inv-loop n required columns firsts products₀ unmet₀ taken₀ kept₀ j₀ products unmet taken kept j = Keeping n required products₀ products unmet kept j × (length unmet ≡ length unmet₀) × (length taken ≡ length taken₀)
+Inv-loop n required columns firsts products₀ uncovered₀ taken₀ flags₀ kept₀ j₀ products uncovered taken flags kept j = Keeping n required products₀ products flags kept j × Unflagged (length required) flags uncovered × (length uncovered ≡ length uncovered₀) × (length taken ≡ length taken₀) × (length flags ≡ 2048)
 
 abbrev μ-loop : tie.MeasureT-loop
-μ-loop n required columns firsts products₀ unmet₀ taken₀ kept₀ j₀ products unmet taken kept j = j
+μ-loop n required columns firsts products₀ uncovered₀ taken₀ flags₀ kept₀ j₀ products uncovered taken flags kept j = j
 
 whole-into-requires : tie.Need-whole-into-requires Inv-loop μ-loop
 whole-into-requires c κs = search needs
@@ -23,8 +24,13 @@ whole-into-requires c κs = search needs
 loop-holds : tie.Need-loop-holds Inv-loop μ-loop
 loop-holds c =
     let s = c .before .before .before .before .before .before .before .before .before .before in
-    let w = c .before .before .whole-into in
-    (keeping-start (s .pre .0 .1) (w .last .1 .0) (omega (arith, s .pre .1 .1, w .kept .1 .0)) (λ k l. w .ensures k (omega (arith, w .kept .1 .0))), refl, refl)
+    let w = c .before .before .whole-into in (
+      keeping-start (s .pre .0 .1),
+      unflagged-start 2048 (length (s .args .required .now)) (w .last .1 .0) (omega (arith, s .pre .1 .1, w .kept .1 .0)) (λ k l. w .ensures k (omega (arith, w .kept .1 .0))),
+      refl,
+      refl,
+      length-replicate 2048 false,
+    )
 
 sub-j : tie.Need-sub-j Inv-loop μ-loop
 sub-j c = search needs
@@ -34,6 +40,9 @@ mul-p c = search needs
 
 slice-read-p : tie.Need-slice-read-p Inv-loop μ-loop
 slice-read-p c = search needs
+
+slice-aggregate-needed : tie.Need-slice-aggregate-needed Inv-loop μ-loop
+slice-aggregate-needed c = search needs
 
 cast-needed : tie.Need-cast-needed Inv-loop μ-loop
 cast-needed c = search needs
@@ -45,7 +54,7 @@ cast-needed-2 : tie.Need-cast-needed-2 Inv-loop μ-loop
 cast-needed-2 c = search needs
 
 needed-requires : tie.Need-needed-requires Inv-loop μ-loop
-needed-requires c κs = omega (arith, c .before .before .before .before .before .before .before .before .before .before .before .before .before .before .before .pre .0 .1 .whole, c .before .before .before .before .loop .inv .0 .wide)
+needed-requires c κs = omega (arith, c .before .before .before .before .before .before .before .before .before .before .before .before .before .before .before .pre .0 .1 .whole, c .before .before .before .before .before .before .before .before .before .before .before .before .before .before .before .pre .0 .1 .many, c .before .before .before .before .loop .inv .4)
 
 sub-kept : tie.Need-sub-kept Inv-loop μ-loop
 sub-kept c = search needs
@@ -59,28 +68,37 @@ slice-write-products c = search needs
 cube-in-requires : tie.Need-cube-in-requires Inv-loop μ-loop
 cube-in-requires c κs = search needs
 
-split-requires : tie.Need-split-requires Inv-loop μ-loop
-split-requires c κs =
-    let s = c .before .before .before .before .before .before .before .before .before .before .before .before .before .before .before .before .before .before .before .before in
-    let w = c .before .before .before .before .before .before .before .before .before .before .before .before .whole-into in
-    let l = c .before .before .before .before .before .before .before .before .before .loop in
-    (s .pre .0 .0, s .pre .0 .2 .long, omega (arith, l .inv .1, w .kept .1 .0, s .pre .1 .0), l .inv .2 ∙ s .pre .1 .2 ∙ sym (w .kept .1 .0) ∙ sym (l .inv .1))
+slice-aggregate-flag-product : tie.Need-slice-aggregate-flag-product Inv-loop μ-loop
+slice-aggregate-flag-product c = search needs
+
+flag-product-requires : tie.Need-flag-product-requires Inv-loop μ-loop
+flag-product-requires c κs =
+    let s = c .before .before .before .before .before .before .before .before .before .before .before .before .before .before .before .before .before .before .before .before .before in
+    let w = c .before .before .before .before .before .before .before .before .before .before .before .before .before .whole-into in
+    let l = c .before .before .before .before .before .before .before .before .before .before .loop in (
+      (s .pre .0 .0, s .pre .0 .2 .long, omega (arith, l .inv .2, w .kept .1 .0, s .pre .1 .0), l .inv .3 ∙ s .pre .1 .2 ∙ sym (w .kept .1 .0) ∙ sym (l .inv .2)),
+      λ i t. omega (arith, unflagged-low (length (s .args .required .now)) (l .flags) (l .uncovered) (l .inv .1) i t, s .pre .0 .1 .many, l .inv .4),
+    )
 
 loop-less : tie.Need-loop-less Inv-loop μ-loop
 loop-less c = search needs
 
 loop-again : tie.Need-loop-again Inv-loop μ-loop
 loop-again c =
-    let s = c .before .before .before .before .before .before .before .before .before .before .before .before .before .before .before .before .before .before .before .before .before .before .before .before .before in
-    let l = c .before .before .before .before .before .before .before .before .before .before .before .before .before .before .loop in
-    let k = c .before .before .before .before .before .before .before .cube-in in
-    let z = c .before .before .before .before .split in
-    let w = getD (l .products) (l .j - 1) 0 in
-    let e : cubeOf (s .args .n) (k .result) ≡ cubeIn (s .args .n) w = rw (k .ensures .0, k .ensures .1) in (
-      keeping-keep (s .pre .0 .1) (keeping-turn (s .pre .0 .1) (l .inv .0) (c .before .before .before .before .before .before .before .before .before .before .before .before .before .loop-test .taken)) (sym (c .before .before .before .before .before .before .before .before .before .needed .ensures) ∙ c .before .before .before .before .before .before .before .before .if1 .taken) (z .last .1 .1 .1 .0)
-          (split-off (s .pre .0 .2) (k .result) w e (l .unmet) (z .last .1 .1 .1 .0) (z .last .1 .1 .1 .1 .0) (z .ensures) (l .inv .0 .wide)) (z .kept .1 .1 .1 .0),
-      z .kept .1 .1 .1 .0 ∙ l .inv .1,
-      z .kept .1 .1 .1 .1 .0 ∙ l .inv .2,
+    let s = c .before .before .before .before .before .before .before .before .before .before .before .before .before .before .before .before .before .before .before .before .before .before .before .before .before .before .before in
+    let l = c .before .before .before .before .before .before .before .before .before .before .before .before .before .before .before .before .loop in
+    let w = c .before .before .before .before .before .before .before .before .before .before .before .before .before .before .before .before .before .before .before .whole-into in
+    let k = c .before .before .before .before .before .before .before .before .before .cube-in in
+    let z = c .before .before .before .before .before .flag-product in
+    let p = getD (l .products) (l .j - 1) 0 in
+    let e : cubeOf (s .args .n) (k .result) ≡ cubeIn (s .args .n) p = rw (k .ensures .0, k .ensures .1) in
+    let wide : length (s .args .required .now) ≤ 64 * length (l .uncovered) = omega (arith, l .inv .2, w .kept .1 .0, s .pre .1 .1) in (
+      keeping-keep (s .pre .0 .1) (keeping-turn (s .pre .0 .1) (l .inv .0) (c .before .before .before .before .before .before .before .before .before .before .before .before .before .before .before .loop-test .taken)) (sym (c .before .before .before .before .before .before .before .before .before .before .before .needed .ensures) ∙ c .before .before .before .before .before .before .before .before .before .before .if1 .taken)
+          (λ i a. flag-is (z .ensures) (l .inv .1) wide i a ∙ rw (product-test (s .pre .0 .2) (k .result) p e i a)),
+      unflagged-next (z .ensures) (l .inv .1) wide (z .kept .1 .1 .1 .0),
+      z .kept .1 .1 .1 .0 ∙ l .inv .2,
+      z .kept .1 .1 .1 .1 .0 ∙ l .inv .3,
+      z .kept .1 .1 .1 .1 .1 .0 ∙ l .inv .4,
     )
 
 loop-less-2 : tie.Need-loop-less-2 Inv-loop μ-loop
@@ -88,17 +106,18 @@ loop-less-2 c = search needs
 
 loop-again-2 : tie.Need-loop-again-2 Inv-loop μ-loop
 loop-again-2 c =
+    let s = c .before .before .before .before .before .before .before .before .before .before .before .before .before .before .before .before .before in
     let l = c .before .before .before .before .before .before .loop in
-    (keeping-skip (c .before .before .before .before .before .before .before .before .before .before .before .before .before .before .before .before .before .pre .0 .1) (keeping-turn (c .before .before .before .before .before .before .before .before .before .before .before .before .before .before .before .before .before .pre .0 .1) (l .inv .0) (omega arith)) (sym (c .before .needed .ensures) ∙ c .if1 .left), l .inv .1, l .inv .2)
+    (keeping-skip (s .pre .0 .1) (keeping-turn (s .pre .0 .1) (l .inv .0) (omega arith)) (sym (c .before .needed .ensures) ∙ c .if1 .left), l .inv .1, l .inv .2, l .inv .3, l .inv .4)
 
 same-length : tie.Need-same-length Inv-loop μ-loop
 same-length c = c .before .loop .inv .0 .long
 
 same-length-2 : tie.Need-same-length-2 Inv-loop μ-loop
-same-length-2 c = c .before .loop .inv .1 ∙ c .before .before .before .before .whole-into .kept .1 .0
+same-length-2 c = c .before .loop .inv .2 ∙ c .before .before .before .before .whole-into .kept .1 .0
 
 same-length-3 : tie.Need-same-length-3 Inv-loop μ-loop
-same-length-3 c = c .before .loop .inv .2
+same-length-3 c = c .before .loop .inv .3
 
 returns : tie.Need-returns Inv-loop μ-loop
 returns c =
@@ -118,6 +137,7 @@ kept-from-spec =
     sub-j
     mul-p
     slice-read-p
+    slice-aggregate-needed
     cast-needed
     transition-in-requires
     cast-needed-2
@@ -126,7 +146,8 @@ kept-from-spec =
     mul-products
     slice-write-products
     cube-in-requires
-    split-requires
+    slice-aggregate-flag-product
+    flag-product-requires
     loop-less
     loop-again
     loop-less-2

@@ -1,7 +1,6 @@
-use mathlib.Core.Path.{sym, _∙_}
+use mathlib.Core.Path.{sym}
 use borrow.Author.Tests.{ne-eqb, eq-eqb}
 use Rattle.cube.proofs.Scan.{and-true, and-false}
-use borrow.Author.Needs.{needs}
 use borrow.Author.Needs.{needs}
 use Rattle.choice.proofs.keep.needed_at.Statement.{statement}
 use Rattle.choice.proofs.keep.needed_at.Tie as tie
@@ -12,15 +11,15 @@ mul-if1 c = search needs
 shared-slice-read-if1 : tie.Need-shared-slice-read-if1
 shared-slice-read-if1 c = search needs
 
-is-member-requires : tie.Need-is-member-requires
-is-member-requires c κs = search needs
+shared-slice-read-result : tie.Need-shared-slice-read-result
+shared-slice-read-result c = search needs
 
 returns : tie.Need-returns
-returns c = c .is-member .ensures ∙ sym (and-true _ _ (eq-eqb _ _ (c .before .if1 .taken)))
+returns c = sym (and-true _ _ (eq-eqb _ _ (c .before .if1 .taken)))
 
 returns-2 : tie.Need-returns-2
 returns-2 c = sym (and-false _ _ (ne-eqb _ _ (c .if1 .left)))
 
 pub needed-at-spec : {M : Type 1} → statement M
 needed-at-spec =
-    tie.close (tie.spec mul-if1 shared-slice-read-if1 is-member-requires returns returns-2)
+    tie.close (tie.spec mul-if1 shared-slice-read-if1 shared-slice-read-result returns returns-2)

@@ -10,10 +10,10 @@ use Rattle.choice.proofs.keep.needed_by_any.Statement.{statement}
 use Rattle.choice.proofs.keep.needed_by_any.Tie as tie
 
 abbrev Inv-loop : tie.InvT-loop
-Inv-loop firsts unmet j i₀ i = Scan (neededIn firsts unmet j) (length firsts) i (first (neededIn firsts unmet j) 0 (length firsts))
+Inv-loop firsts flags j i₀ i = Scan (neededIn firsts flags j) (length firsts) i (first (neededIn firsts flags j) 0 (length firsts))
 
 abbrev μ-loop : tie.MeasureT-loop
-μ-loop firsts unmet j i₀ i = length firsts - i
+μ-loop firsts flags j i₀ i = length firsts - i
 
 loop-holds : tie.Need-loop-holds Inv-loop μ-loop
 loop-holds c = scan-start _ _

@@ -1,4 +1,4 @@
--- The loop that notes a product for the rows of a set.
+-- The loop that puts a value in the places of the rows of a set: a product noted, or a flag set.
 use mathlib.Core.Path.{_≡_, refl, sym, ap, _∙_}
 use mathlib.Core.Logic.{_≢_}
 use mathlib.Core.Bool.{Bool, true, false, cond, _&&_}
@@ -16,19 +16,19 @@ use Rattle.hazard.proofs.Point.{flip-same, flip-other}
 use Rattle.hazard.proofs.Test.{T-and, is, isnt, eqb-of, bool-ext}
 use Rattle.cube.specs.PointSet.{inSet}
 use Rattle.blocks.proofs.Members.{lowest-few, lowest-set}
-use Rattle.choice.specs.First.{inWord}
+use Rattle.choice.specs.Rows.{inWord}
 
--- What is noted in the end is what is noted now, and j for the rows that are left.
-pub record Noting (b word j : ℕ) (old new : List ℕ) (left : ℕ) : Type 0 where
+-- What stands there in the end is what stands there now, and v in the places of the rows that are left.
+pub record Placing {A : Type 0} (d : A) (b word : ℕ) (v : A) (old new : List A) (left : ℕ) : Type 0 where
   pub long : length new ≡ length old
   pub small : left < 2 ^ 64
   pub within : (i : ℕ) → T (inWord b left i) → T (inWord b word i)
-  pub is : (i : ℕ) → cond (inWord b word i) j (getD old i 0) ≡ cond (inWord b left i) j (getD new i 0)
+  pub is : (i : ℕ) → cond (inWord b word i) v (getD old i d) ≡ cond (inWord b left i) v (getD new i d)
 
-pub noting-start : (b word j : ℕ) (old : List ℕ) → word < 2 ^ 64 → Noting b word j old old word
-noting-start b word j old h = record { long = refl; small = h; within = λ i t. t; is = λ i. refl }
+pub placing-start : {A : Type 0} (d : A) (b word : ℕ) (v : A) (old : List A) → word < 2 ^ 64 → Placing d b word v old old word
+placing-start d b word v old h = record { long = refl; small = h; within = λ i t. t; is = λ i. refl }
 
-module _ {b word j : ℕ} {old new : List ℕ} {left : ℕ} (s : Noting b word j old new left) (ne : left ≢ 0) where
+module _ {A : Type 0} {d : A} {b word : ℕ} {v : A} {old new : List A} {left : ℕ} (s : Placing d b word v old new left) (ne : left ≢ 0) where
   abbrev lowest : ℕ
   lowest = 64 * b + trailingZeros 64 left
 
@@ -41,10 +41,10 @@ module _ {b word j : ℕ} {old new : List ℕ} {left : ℕ} (s : Noting b word j
   here : T (inWord b left lowest)
   here = T-and (eqb (lowest / 64) b) (eqb (bit left (lowest % 64)) 1) .1 (eqb-of (place .0), eqb-of (ap (bit left) (place .1) ∙ lowest-set left (s .small) ne))
 
-  pub noting-at : ((i : ℕ) → T (inWord b word i) → i < length old) → lowest < length new
-  noting-at h = omega (arith, h lowest (s .within lowest here), s .long)
+  pub placing-at : ((i : ℕ) → T (inWord b word i) → i < length old) → lowest < length new
+  placing-at h = omega (arith, h lowest (s .within lowest here), s .long)
 
-  -- The lowest row is noted, and leaves.
+  -- The lowest row has its value, and leaves.
   gone : inWord b (flip left (trailingZeros 64 left)) lowest ≡ false
   gone = isnt (inWord b (flip left (trailingZeros 64 left)) lowest) (λ t.
       let e = eqb→eq (bit (flip left (trailingZeros 64 left)) (lowest % 64)) 1 (T-and (eqb (lowest / 64) b) (eqb (bit (flip left (trailingZeros 64 left)) (lowest % 64)) 1) .0 t .1) in
@@ -56,20 +56,20 @@ module _ {b word j : ℕ} {old new : List ℕ} {left : ℕ} (s : Noting b word j
     | no e ↦ let f : eqb (i / 64) b ≡ false = isnt (eqb (i / 64) b) (λ t. e (eqb→eq (i / 64) b t)) in rw f
   ]
 
-  pub noting-step : lowest < length new → {next : ℕ} → next ≡ flip left (trailingZeros 64 left) → next < left → Noting b word j old (set new lowest j) next
-  noting-step l {next} e less =
+  pub placing-step : lowest < length new → {next : ℕ} → next ≡ flip left (trailingZeros 64 left) → next < left → Placing d b word v old (set new lowest v) next
+  placing-step l {next} e less =
       record {
-        long = length-set new lowest j ∙ s .long;
+        long = length-set new lowest v ∙ s .long;
         small = omega (arith, less, s .small);
         within = λ i t. s .within i (elim (ℕ-discrete i lowest) [ yes q ↦ rw q here | no q ↦ rw (e, others i q) at t ]);
         is = λ i. s .is i ∙ elim (ℕ-discrete i lowest) [
-          | yes q ↦ rw (q, e, is {b = inWord b left lowest} here, gone) (sym (getD-set-same new lowest j 0 l))
-          | no q ↦ rw (e, others i q, getD-set-other new lowest i j 0 q)
+          | yes q ↦ rw (q, e, is {b = inWord b left lowest} here, gone) (sym (getD-set-same new lowest v d l))
+          | no q ↦ rw (e, others i q, getD-set-other new lowest i v d q)
         ];
       }
 
-pub noting-end : {b word j : ℕ} {old new : List ℕ} {left : ℕ} → Noting b word j old new left → left ≡ 0 → (i : ℕ) → getD new i 0 ≡ cond (inWord b word i) j (getD old i 0)
-noting-end {b} {word} {j} {old} {new} {left} s e i = sym (s .is i ∙ ap (λ (t : Bool). cond t j (getD new i 0)) none)
+pub placing-end : {A : Type 0} {d : A} {b word : ℕ} {v : A} {old new : List A} {left : ℕ} → Placing d b word v old new left → left ≡ 0 → (i : ℕ) → getD new i d ≡ cond (inWord b word i) v (getD old i d)
+placing-end {A} {d} {b} {word} {v} {old} {new} {left} s e i = sym (s .is i ∙ ap (λ (t : Bool). cond t v (getD new i d)) none)
   where
     none : inWord b left i ≡ false
     none = isnt (inWord b left i) (λ t. let q = eqb→eq (bit left (i % 64)) 1 (T-and (eqb (i / 64) b) (eqb (bit left (i % 64)) 1) .0 t .1) in omega (arith, q, ap (λ (y : ℕ). bit y (i % 64)) e, no-bit (i % 64)))
@@ -77,11 +77,11 @@ noting-end {b} {word} {j} {old} {new} {left} s e i = sym (s .is i ∙ ap (λ (t 
         no-bit : (t : ℕ) → bit 0 t ≡ 0
         no-bit t = ap (λ (y : ℕ). y % 2) (zero-div (2 ^ t))
 
--- Word after word: j is noted for the rows of the words below b.
-pub record Marking (set : List ℕ) (j : ℕ) (old new : List ℕ) (b : ℕ) : Type 0 where
+-- Word after word: v stands in the places of the rows of the words below b.
+pub record Placed {A : Type 0} (d : A) (set : List ℕ) (v : A) (old new : List A) (b : ℕ) : Type 0 where
   pub low : b ≤ length set
   pub long : length new ≡ length old
-  pub is : (i : ℕ) → getD new i 0 ≡ cond (ltb i (64 * b) && inSet set i) j (getD old i 0)
+  pub is : (i : ℕ) → getD new i d ≡ cond (ltb i (64 * b) && inSet set i) v (getD old i d)
 
 not-below : (i k : ℕ) → k ≤ i → ltb i k ≡ false
 not-below i k l = isnt (ltb i k) (λ t. let h = ltb→lt i k t in omega arith)
@@ -89,31 +89,31 @@ not-below i k l = isnt (ltb i k) (λ t. let h = ltb→lt i k t in omega arith)
 below : (i k : ℕ) → i < k → ltb i k ≡ true
 below i k l = is {b = ltb i k} (lt→ltb i k l)
 
-pub marking-start : (set : List ℕ) (j : ℕ) (old : List ℕ) → Marking set j old old 0
-marking-start set j old = record { low = omega arith; long = refl; is = λ i. rw (not-below i (64 * 0) (omega arith)) }
+pub placed-start : {A : Type 0} (d : A) (set : List ℕ) (v : A) (old : List A) → Placed d set v old old 0
+placed-start d set v old = record { low = omega arith; long = refl; is = λ i. rw (not-below i (64 * 0) (omega arith)) }
 
-module _ {set : List ℕ} {j : ℕ} {old new : List ℕ} {b : ℕ} (s : Marking set j old new b) where
+module _ {A : Type 0} {d : A} {set : List ℕ} {v : A} {old new : List A} {b : ℕ} (s : Placed d set v old new b) where
   -- The rows of word b are rows of the set.
-  pub marking-word : (i : ℕ) → T (inWord b (getD set b 0) i) → T (inSet set i)
-  marking-word i t =
+  pub placed-word : (i : ℕ) → T (inWord b (getD set b 0) i) → T (inSet set i)
+  placed-word i t =
       let (q, u) = T-and (eqb (i / 64) b) (eqb (bit (getD set b 0) (i % 64)) 1) .0 t in
       rw (eqb→eq (i / 64) b q) u
 
-  pub marking-step : b < length set → (next : List ℕ) → length next ≡ length new → ((i : ℕ) → getD next i 0 ≡ cond (inWord b (getD set b 0) i) j (getD new i 0)) → Marking set j old next (b + 1)
-  marking-step l next m h = record { low = omega arith; long = m ∙ s .long; is = λ i. h i ∙ go i (ℕ-discrete (i / 64) b) }
+  pub placed-step : b < length set → (next : List A) → length next ≡ length new → ((i : ℕ) → getD next i d ≡ cond (inWord b (getD set b 0) i) v (getD new i d)) → Placed d set v old next (b + 1)
+  placed-step l next m h = record { low = omega arith; long = m ∙ s .long; is = λ i. h i ∙ go i (ℕ-discrete (i / 64) b) }
     where
-      go : (i : ℕ) → Dec (i / 64 ≡ b) → cond (inWord b (getD set b 0) i) j (getD new i 0) ≡ cond (ltb i (64 * (b + 1)) && inSet set i) j (getD old i 0)
+      go : (i : ℕ) → Dec (i / 64 ≡ b) → cond (inWord b (getD set b 0) i) v (getD new i d) ≡ cond (ltb i (64 * (b + 1)) && inSet set i) v (getD old i d)
       go i (yes q) =
           let e : inWord b (getD set b 0) i ≡ inSet set i = rw (is {b = eqb (i / 64) b} (eqb-of q)) (rw q) in
-          let f : getD new i 0 ≡ getD old i 0 = s .is i ∙ rw (not-below i (64 * b) (omega arith)) in
+          let f : getD new i d ≡ getD old i d = s .is i ∙ rw (not-below i (64 * b) (omega arith)) in
           rw (e, f, below i (64 * (b + 1)) (omega arith))
       go i (no q) =
           let e : eqb (i / 64) b ≡ false = isnt (eqb (i / 64) b) (λ t. q (eqb→eq (i / 64) b t)) in
           let f : ltb i (64 * b) ≡ ltb i (64 * (b + 1)) = bool-ext (ltb i (64 * b)) (ltb i (64 * (b + 1))) (λ t. lt→ltb i (64 * (b + 1)) (omega (arith, ltb→lt i (64 * b) t))) (λ t. lt→ltb i (64 * b) (omega (arith, ltb→lt i (64 * (b + 1)) t))) in
           rw (e, s .is i, f)
 
-  pub marking-end : length set ≤ b → (i : ℕ) → getD new i 0 ≡ cond (inSet set i) j (getD old i 0)
-  marking-end l i = s .is i ∙ ap (λ (t : Bool). cond t j (getD old i 0)) (same (decLt i (64 * b)))
+  pub placed-end : length set ≤ b → (i : ℕ) → getD new i d ≡ cond (inSet set i) v (getD old i d)
+  placed-end l i = s .is i ∙ ap (λ (t : Bool). cond t v (getD old i d)) (same (decLt i (64 * b)))
     where
       same : Dec (i < 64 * b) → (ltb i (64 * b) && inSet set i) ≡ inSet set i
       same (yes h) = rw (below i (64 * b) h)
