@@ -4,7 +4,8 @@ use mathlib.Core.List.{List, map}
 use mathlib.Core.Option.{Option, none, some}
 use Prim.Native.Nat.{ℕ, _≤_}
 use Rattle.hazard.specs.Cube as digits
-use Rattle.hazard.specs.Sets.{Privileged}
+use Rattle.hazard.specs.Sets.{Required, Privileged}
+use Rattle.hazard.specs.Refusal.{Refusal}
 use Rattle.hazard.specs.Growth as spec
 use Rattle.cube.specs.Mask.{cubeOf, Clean}
 use Rattle.cube.specs.Entry.{privilegedIn}
@@ -21,6 +22,15 @@ metOf n met.Nothing = none
 abbrev pub grownOf : ℕ → Grown → spec.Growth
 grownOf n (Legal c s) = spec.Legal (cubeOf n c) s
 grownOf n (Blocked z s) = spec.Blocked z s
+
+-- The zero that growth ended at; 0 where it ended legal.
+abbrev pub zeroOf : spec.Growth → ℕ
+zeroOf (spec.Legal c s) = 0
+zeroOf (spec.Blocked z s) = z
+
+-- Refusal 10 for a required cube whose growth ended so.
+abbrev pub blockRefusal : Required → spec.Growth → Refusal
+blockRefusal r g = record { number = 10; transition = r .transition; point = r .label; steps = spec.steps g; lowest = zeroOf g; product = 0 }
 
 -- The masks of a legal answer are those of a cube of n inputs.
 abbrev pub LegalClean : ℕ → Grown → Type 0

@@ -11,17 +11,13 @@ use Rattle.hazard.specs.Implicant.{DhfPrime}
 use Rattle.hazard.specs.Minimal.{bytesOf}
 use Rattle.cube.specs.Entry.{requiredIn, privilegedIn}
 use Rattle.cube.specs.PointSet.{inSet}
-use Rattle.cube.proofs.Word.{taken-clean}
-use Rattle.choice.specs.Network.{cubeIn, networkIn, Small}
+use Rattle.choice.specs.Network.{cubeIn, networkIn}
 use Rattle.choice.specs.Keep.{Kept}
 use Rattle.choice.proofs.Keeping.{index-of}
 use Rattle.minimiser.specs.Choose.{Chosen}
 use Rattle.minimiser.specs.Select.{Selected}
 
 module _ {n : ℕ} {off privileged required firsts products : List ℕ} {m : ℕ} (chosen : Chosen n off privileged required firsts products m) where
-  pub chosen-small : (i : ℕ) → Small n (getD (take m products) i 0)
-  chosen-small i = taken-clean n m products (λ k l. chosen .good k l .clean) i .small
-
   pub chosen-few : m ≤ length required
   chosen-few = omega (arith, chosen .noted .few, length-take-le m products (chosen .low))
 

@@ -11,12 +11,13 @@ use crate::network::Minimised;
 use crate::product::Made;
 use crate::product::product_for;
 use blocks::whole::whole_into;
-use choice::first::NONE;
-use choice::first::note_product;
+use choice::first::note;
+use choice::flag::flag_product;
 use cube::entry::pack;
 
-// For each required cube that no product chosen so far contains, the product for it is chosen. One that lies in a product cannot block,
-// so the first that blocks is found on the way. `columns` has the required cubes for its rows; `left` and `taken` are room for sets of them.
+// For each required cube whose flag is not set, the product for it is chosen, and those in it are flagged. One that lies in a product
+// cannot block, so the first that blocks is found on the way. `columns` has the required cubes for its rows; `uncovered` is the set of
+// those not flagged, and `taken` is room for a set.
 pub fn choose(
     n: usize,
     off: &[u64],
@@ -24,31 +25,32 @@ pub fn choose(
     legal: &[u64],
     required: &[u64],
     columns: &[u64],
-    left: &mut [u64],
+    uncovered: &mut [u64],
     taken: &mut [u64],
     firsts: &mut [u16],
     products: &mut [u64],
 ) -> Minimised
     requires { ⌜ Ready n (now off) × Columns n (now privileged) (now legal) × (length (now required) ≤ 2048) × (length (now firsts) ≡ length (now required)) × (length (now required) ≤ length (now products)) ⌝ }
-    requires { ⌜ Inside n (now required) (now columns) × (length (now left) ≤ 32) × (length (now required) ≤ 64 * length (now left)) × (length (now taken) ≡ length (now left)) ⌝ }
+    requires { ⌜ Inside n (now required) (now columns) × (length (now uncovered) ≤ 32) × (length (now required) ≤ 64 * length (now uncovered)) × (length (now taken) ≡ length (now uncovered)) ⌝ }
     requires { ⌜ ((k : ℕ) → CleanWord n (getD (now required) k 0)) ⌝ }
-    requires { ⌜ ((k : ℕ) → k < length (now required) → getD (now firsts) k 0 ≡ 65535) ⌝ }
     ensures { λ r. ⌜ Choice n (now (off .entry)) (now (privileged .entry)) (now (required .entry)) (now (firsts .exit)) (now (products .exit)) r ⌝ }
 {
-    whole_into(required.len(), left);
+    let mut flags = [false; 2048];
+    whole_into(required.len(), uncovered);
     let mut m = 0;
     let mut i = 0;
     while i < required.len() {
         let r = i;
         i += 1;
-        if firsts[r] == NONE {
-            let made = product_for(n, off, privileged, legal, required, columns, left, r);
+        if !flags[r] {
+            let made = product_for(n, off, privileged, legal, required, columns, uncovered, r);
             match made {
                 Made::Blocked(q) => return Minimised::Refused(q),
                 Made::Product(c) => {
                     // The word carries the place of the required cube that the product is for.
                     products[m] = pack(r as u16, 0, c);
-                    note_product(n, columns, c, left, taken, firsts, m as u16);
+                    flag_product(n, columns, c, uncovered, taken, &mut flags);
+                    note(firsts, taken, m as u16);
                     m += 1;
                 }
             }

@@ -10,7 +10,6 @@ ghost use Rattle.minimiser.specs.Room.{Room, Columns};
 ghost use Rattle.minimiser.specs.Answer.{minimisedOf, Answered};
 use crate::select::select;
 use blocks::fill::blocks_into;
-use choice::first::NONE;
 use columns::relation::Relation;
 use expand::meeting::columns_into;
 use problem::refusal::Refusal;
@@ -33,14 +32,14 @@ fn cover_with(
     legal: &mut [u64],
     required: &mut [u64],
     columns: &mut [u64],
-    left: &mut [u64],
+    uncovered: &mut [u64],
     taken: &mut [u64],
     firsts: &mut [u16],
     products: &mut [u64],
     cover: &mut [u8],
 ) -> Minimised
     requires { ⌜ Ready n (now table) (now transitions) × (length (sets.required n (now table) (now transitions)) ≤ 2048) × (length (sets.required n (now table) (now transitions)) * n ≤ length (now cover)) ⌝ }
-    requires { ⌜ Plane (now table) 0 (now off) × Plane (now table) 1 (now ones) × (length (now privileged) ≡ 64) × (length (now legal) ≡ 60) × Room (length (sets.required n (now table) (now transitions))) (now required) (now firsts) (now products) × Columns (length (sets.required n (now table) (now transitions))) (now columns) (now left) (now taken) ⌝ }
+    requires { ⌜ Plane (now table) 0 (now off) × Plane (now table) 1 (now ones) × (length (now privileged) ≡ 64) × (length (now legal) ≡ 60) × Room (length (sets.required n (now table) (now transitions))) (now required) (now firsts) (now products) × Columns (length (sets.required n (now table) (now transitions))) (now columns) (now uncovered) (now taken) ⌝ }
     ensures { λ r. ⌜ Answered n (transition.off (now (table .entry))) (sets.privileged n (now (table .entry)) (now (transitions .entry))) (sets.required n (now (table .entry)) (now (transitions .entry))) (now (cover .entry)) (now (cover .exit)) (minimisedOf r) ⌝ }
 {
     let s = sets_into(n, table, transitions, off, ones, privileged, required);
@@ -56,7 +55,7 @@ fn cover_with(
         legal,
         &required[0..r],
         columns,
-        &mut left[0..b],
+        &mut uncovered[0..b],
         &mut taken[0..b],
         &mut firsts[0..r],
         products,
@@ -81,9 +80,9 @@ fn cover_few(
     let mut legal = [0u64; 60];
     let mut required = [0u64; 64];
     let mut columns = [0u64; 960];
-    let mut left = [0u64; 1];
+    let mut uncovered = [0u64; 1];
     let mut taken = [0u64; 1];
-    let mut firsts = [NONE; 64];
+    let mut firsts = [0u16; 64];
     let mut products = [0u64; 64];
     cover_with(
         n,
@@ -95,7 +94,7 @@ fn cover_few(
         &mut legal,
         &mut required,
         &mut columns,
-        &mut left,
+        &mut uncovered,
         &mut taken,
         &mut firsts,
         &mut products,
@@ -120,9 +119,9 @@ fn cover_many(
     let mut legal = [0u64; 60];
     let mut required = [0u64; 2048];
     let mut columns = [0u64; 960];
-    let mut left = [0u64; 32];
+    let mut uncovered = [0u64; 32];
     let mut taken = [0u64; 32];
-    let mut firsts = [NONE; 2048];
+    let mut firsts = [0u16; 2048];
     let mut products = [0u64; 2048];
     cover_with(
         n,
@@ -134,7 +133,7 @@ fn cover_many(
         &mut legal,
         &mut required,
         &mut columns,
-        &mut left,
+        &mut uncovered,
         &mut taken,
         &mut firsts,
         &mut products,

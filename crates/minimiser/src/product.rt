@@ -48,7 +48,7 @@ fn grown_over(
 }
 
 // The dhf-implicant c grown over required cubes near it that lie in no product yet, where that stays legal, and expanded to a dhf-prime.
-// Those of the block of required cube i are tried, which is what c was made for; `columns` has the required cubes for its rows, and `left`
+// Those of the block of required cube i are tried, which is what c was made for; `columns` has the required cubes for its rows, and `uncovered`
 // is the set of those in no product. The growth over the others makes for fewer products; no promise rests on it.
 fn widened(
     n: usize,
@@ -57,18 +57,18 @@ fn widened(
     legal: &[u64],
     required: &[u64],
     columns: &[u64],
-    left: &[u64],
+    uncovered: &[u64],
     i: usize,
     c: Cube,
 ) -> Cube
     requires { ⌜ Ready n (now off) × Columns n (now privileged) (now legal) ⌝ }
-    requires { ⌜ (length (now columns) ≡ 960) × (length (now left) ≤ 32) × (i < 64 * length (now left)) ⌝ }
+    requires { ⌜ (length (now columns) ≡ 960) × (length (now uncovered) ≤ 32) × (i < 64 * length (now uncovered)) ⌝ }
     requires { ⌜ Clean n c × T (dhfImplicant n (inSet (now off)) (map (privilegedIn n) (now privileged)) (cubeOf n c)) ⌝ }
     ensures { λ r. ⌜ PrimeOver n (now (off .entry)) (now (privileged .entry)) (cubeOf n c) r ⌝ }
 {
     let b = i / 64;
     let mut p = c;
-    let mut tries = left[b] & near(n, columns, b, c);
+    let mut tries = uncovered[b] & near(n, columns, b, c);
     while tries != 0 {
         let k = 64 * b + u64::trailing_zeros(tries) as usize;
         p = grown_over(n, off, privileged, legal, required, p, k);
@@ -91,29 +91,29 @@ pub fn product_for(
     legal: &[u64],
     required: &[u64],
     columns: &[u64],
-    left: &[u64],
+    uncovered: &[u64],
     i: usize,
 ) -> Made
     requires { ⌜ Ready n (now off) × Columns n (now privileged) (now legal) × (i < length (now required)) ⌝ }
-    requires { ⌜ (length (now columns) ≡ 960) × (length (now left) ≤ 32) × (i < 64 * length (now left)) ⌝ }
+    requires { ⌜ (length (now columns) ≡ 960) × (length (now uncovered) ≤ 32) × (i < 64 * length (now uncovered)) ⌝ }
     requires { ⌜ ((k : ℕ) → CleanWord n (getD (now required) k 0)) ⌝ }
     ensures { λ r. ⌜ MadeFor n (now (off .entry)) (now (privileged .entry)) (getD (now (required .entry)) i 0) r ⌝ }
 {
     let w = required[i];
     let cube = cube_in(w);
     let grown = grow(n, off, privileged, legal, cube);
-    match grown {
-        Grown::Legal(c, _) => Made::Product(widened(
-            n,
-            off,
-            privileged,
-            legal,
-            required,
-            columns,
-            left,
-            i,
-            c,
-        )),
-        Grown::Blocked(z, s) => Made::Blocked(refusal_of(w, z, s)),
-    }
+    let Grown::Legal(c, _) = grown else {
+        return Made::Blocked(refusal_of(w, grown));
+    };
+    Made::Product(widened(
+        n,
+        off,
+        privileged,
+        legal,
+        required,
+        columns,
+        uncovered,
+        i,
+        c,
+    ))
 }

@@ -1,7 +1,7 @@
 // From the stored sets to the written network.
 ghost use mathlib.Core.Path.{_≡_};
 ghost use mathlib.Core.List.{map};
-ghost use Prim.Native.Nat.{ℕ, _*_, _≤_, _<_};
+ghost use Prim.Native.Nat.{ℕ, _*_, _≤_};
 ghost use lib.ListN.{length, getD};
 ghost use Rattle.cube.specs.Entry.{requiredIn, privilegedIn, CleanWord};
 ghost use Rattle.cube.specs.PointSet.{inSet};
@@ -22,16 +22,15 @@ pub fn select(
     legal: &[u64],
     required: &[u64],
     columns: &[u64],
-    left: &mut [u64],
+    uncovered: &mut [u64],
     taken: &mut [u64],
     firsts: &mut [u16],
     products: &mut [u64],
     cover: &mut [u8],
 ) -> Minimised
     requires { ⌜ Ready n (now off) × Columns n (now privileged) (now legal) × (length (now required) ≤ 2048) × (length (now firsts) ≡ length (now required)) × (length (now required) ≤ length (now products)) × (length (now required) * n ≤ length (now cover)) ⌝ }
-    requires { ⌜ Inside n (now required) (now columns) × (length (now left) ≤ 32) × (length (now required) ≤ 64 * length (now left)) × (length (now taken) ≡ length (now left)) ⌝ }
+    requires { ⌜ Inside n (now required) (now columns) × (length (now uncovered) ≤ 32) × (length (now required) ≤ 64 * length (now uncovered)) × (length (now taken) ≡ length (now uncovered)) ⌝ }
     requires { ⌜ ((k : ℕ) → CleanWord n (getD (now required) k 0)) ⌝ }
-    requires { ⌜ ((k : ℕ) → k < length (now required) → getD (now firsts) k 0 ≡ 65535) ⌝ }
     ensures { λ r. ⌜ Answered n (inSet (now (off .entry))) (map (privilegedIn n) (now (privileged .entry))) (map (requiredIn n) (now (required .entry))) (now (cover .entry)) (now (cover .exit)) (minimisedOf r) ⌝ }
 {
     let chosen = choose(
@@ -41,7 +40,7 @@ pub fn select(
         legal,
         required,
         columns,
-        left,
+        uncovered,
         taken,
         firsts,
         products,
@@ -55,7 +54,7 @@ pub fn select(
         columns,
         firsts,
         &mut products[0..m],
-        left,
+        uncovered,
         taken,
     );
     write_network(n, &products[kept..m], cover);

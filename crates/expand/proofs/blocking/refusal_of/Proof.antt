@@ -8,8 +8,16 @@ transition-in-requires c κs = search needs
 point-in-requires : tie.Need-point-in-requires
 point-in-requires c κs = search needs
 
+steps-of-requires : tie.Need-steps-of-requires
+steps-of-requires c κs = search needs
+
+zero-of-requires : tie.Need-zero-of-requires
+zero-of-requires c κs = search needs
+
 returns : tie.Need-returns
-returns c n = rw (c .before .transition-in .ensures, c .point-in .ensures)
+returns c n = rw (c .before .before .before .transition-in .ensures, c .before .before .point-in .ensures, c .before .steps-of .ensures n, c .zero-of .ensures n)
 
 pub refusal-of-spec : {M : Type 1} → statement M
-refusal-of-spec = tie.close (tie.spec transition-in-requires point-in-requires returns)
+refusal-of-spec =
+    tie.close
+    (tie.spec transition-in-requires point-in-requires steps-of-requires zero-of-requires returns)
