@@ -21,7 +21,7 @@ digitAt c i = digit (bit (c .care) i) (bit (c .value) i)
 abbrev pub allowed : List ℕ → ℕ → ℕ → ℕ → Bool
 allowed columns k i d = eqb (bit (getD columns (32 * (3 * i + d) + k / 64) 0) (k % 64)) 1
 
--- It has for each input below n, with the cube's digit there.
+-- Row k has its bit for each input below n, in the words of the cube's digit there.
 abbrev pub allowedTo : List ℕ → ℕ → Cube → ℕ → Bool
 allowedTo columns k c zero = true
 allowedTo columns k c (suc i) = allowedTo columns k c i && allowed columns k i (digitAt c i)

@@ -16,7 +16,7 @@ pub record Marks (c : Cube) (i m : ℕ) : Type 0 where
   pub small : m < 2 ^ (2 ^ i)
   pub marks : (x : ℕ) → eqb (bit m (x % 2 ^ i)) 1 ≡ eqb (differs c x % 2 ^ i) 0
 
--- Word w differs from the cube h where its points differ from the cube c, at the inputs from 6 on: the points of h are the words with points of c.
+-- The points of the cube h are the numbers of the words that have points of the cube c: c's literals on the inputs from 6 on.
 pub record Words (c h : Cube) : Type 0 where
   pub fits : Clean 4 h
   pub word : (x : ℕ) → differs h (x / 64) ≡ differs c x / 64

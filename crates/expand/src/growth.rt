@@ -17,7 +17,8 @@ pub enum Grown {
     Blocked(u16, u16),
 }
 
-// The cube grown: while it has no zero and some illegal intersection, the first privileged cube so met has its start point taken in.
+// A cube that contains no zero, but intersects privileged cubes illegally, takes in the start point of the first of them, again and again.
+// Each step frees an input, so n steps are enough; how it ends is the answer.
 pub fn grow(n: usize, off: &[u64], privileged: &[u64], columns: &[u64], c: Cube) -> Grown
     requires { ⌜ Ready n (now off) ⌝ }
     requires { ⌜ Columns n (now privileged) (now columns) ⌝ }

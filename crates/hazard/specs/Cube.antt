@@ -5,6 +5,7 @@ use mathlib.Core.List.{List, [], _∷_}
 use Prim.Native.Nat.{ℕ, zero, suc, _+_, _-_, _/_, _%_, _^_}
 use lib.Dec.{eqb, leb}
 
+-- A cube's digits.
 abbrev pub Cube : Type 0
 Cube = List ℕ
 

@@ -23,6 +23,7 @@ module _ (n : ℕ) (off : ℕ → Bool) (vs : List Privileged) where
   expandFrom i zero p = p
   expandFrom i (suc m) p = expandFrom (suc i) m (raise p i)
 
+  -- All literals raised, from input 0 on.
   abbrev pub expand : Cube → Cube
   expand p = expandFrom 0 n p
 

@@ -13,6 +13,7 @@ pub data Growth : Type 0 where
   Legal : Cube → ℕ → Growth
   Blocked : ℕ → ℕ → Growth
 
+-- How many start points were taken in.
 abbrev pub steps : Growth → ℕ
 steps (Legal c s) = s
 steps (Blocked z s) = s
@@ -23,8 +24,8 @@ Grown (Legal c s) = Unit {0}
 Grown (Blocked z s) = ⊥
 
 module _ (n : ℕ) (off : ℕ → Bool) (vs : List Privileged) where
-  -- While the cube has no zero and some illegal intersection, the first privileged cube so met has its start point taken in.
-  -- Each step frees an input, so the fuel never decides where growth ends.
+  -- A cube that contains no zero and intersects some privileged cube illegally takes in the start point of the first such cube, and grows on.
+  -- Each step frees an input, so n steps are enough and the bound on them never ends growth.
   abbrev pub growFrom : ℕ → Cube → ℕ → Growth
   growFrom zero c s = elim (lowestZero n off c) [ some z ↦ Blocked z s | none ↦ Legal c s ]
   growFrom (suc fuel) c s =
@@ -33,5 +34,6 @@ module _ (n : ℕ) (off : ℕ → Bool) (vs : List Privileged) where
         | none ↦ elim (find (illegal c) vs) [ some v ↦ growFrom fuel (join c (v .start)) (suc s) | none ↦ Legal c s ]
       ]
 
+  -- Growth from the cube on, at no step yet.
   abbrev pub grow : Cube → Growth
   grow c = growFrom n c 0

@@ -22,6 +22,7 @@ abbrev pub blockedBy : Required → Growth → Option Refusal
 blockedBy r (Legal c s) = none
 blockedBy r (Blocked z s) = some (record { number = 10; transition = r .transition; point = r .label; steps = s; lowest = z; product = 0 })
 
+-- The check of one required cube: whether it blocks.
 abbrev pub blockCheck : ℕ → (ℕ → Bool) → List Privileged → Required → Option Refusal
 blockCheck n off vs r = blockedBy r (grow n off vs (r .cube))
 

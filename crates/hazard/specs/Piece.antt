@@ -14,6 +14,7 @@ use Rattle.hazard.specs.Refusal.{Refusal}
 use Rattle.hazard.specs.Verdict.{Verdict, verdict, products}
 use Rattle.hazard.specs.Minimal.{minimiserChecks, Minimal}
 
+-- What is asked, and the answer.
 pub data Item : Type 0 where
   -- The minimiser's network has these products, in some order.
   minimised : Network → Item
@@ -24,6 +25,7 @@ pub data Item : Type 0 where
   -- The output list of a run of the network in a transition.
   moved : List ℕ → ℕ → List Wire → List Bool → Item
 
+-- A problem, with an item on it.
 pub record Piece : Type 0 where
   pub inputs : ℕ
   pub table : List ℕ
@@ -41,11 +43,13 @@ module _ (n : ℕ) (f ts : List ℕ) where
     pub meets : Minimal n f ts net
     pub only : (other : Network) → Minimal n f ts other → Perm other net
 
+  -- What an item says of the problem.
   abbrev pub Says : Item → Type 0
   Says (minimised net) = Exactly net
   Says (declined r) = firstOf (minimiserChecks n f ts checked) ≡ some r
   Says (verified bytes v) = verdict n f ts bytes ≡ v
   Says (moved bytes k ws bs) = Run (start ts k) (end ts k) (products n bytes) ws × (outputs (start ts k) (end ts k) (products n bytes) [] ws ≡ bs)
 
+-- The set piece holds.
 abbrev pub Holds : Piece → Type 0
 Holds p = Says (p .inputs) (p .table) (p .transitions) (p .item)

@@ -13,9 +13,11 @@ pub record Wire : Type 0 where
   pub product : ℕ
   pub input : ℕ
 
+-- The two wires are one.
 abbrev pub sameWire : Wire → Wire → Bool
 sameWire v w = eqb (v .product) (w .product) && eqb (v .input) (w .input)
 
+-- The wire stands in the list.
 abbrev pub seen : List Wire → Wire → Bool
 seen [] w = false
 seen (v ∷ vs) w = sameWire v w || seen vs w

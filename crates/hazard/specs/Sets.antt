@@ -30,23 +30,25 @@ labels n f rise a b = those (last n f b a) 0 (2 ^ n)
 labels n f fall a b = those (last n f a b) 0 (2 ^ n)
 labels n f high a b = b ∷ []
 
--- The end that the required cubes share with a label; of a dynamic transition, the start point of its privileged cube.
+-- The end of the transition that lies in all its required cubes; of a dynamic one it is the start point of the privileged cube too.
 abbrev pub startPoint : Kind → ℕ → ℕ → ℕ
 startPoint low a b = a
 startPoint rise a b = b
 startPoint fall a b = a
 startPoint high a b = a
 
+-- The function changes in a transition of this kind.
 abbrev pub dynamic : Kind → Bool
 dynamic low = false
 dynamic rise = true
 dynamic fall = true
 dynamic high = false
 
--- The kind and the start point of transition k.
+-- The kind of transition k.
 abbrev pub kindAt : List ℕ → List ℕ → ℕ → Kind
 kindAt f ts k = kind f (start ts k) (end ts k)
 
+-- The start point of transition k.
 abbrev pub startAt : List ℕ → List ℕ → ℕ → ℕ
 startAt f ts k = startPoint (kindAt f ts k) (start ts k) (end ts k)
 
@@ -55,6 +57,7 @@ module _ (n : ℕ) (f ts : List ℕ) where
   abbrev pub requiredOf : ℕ → List Required
   requiredOf k = map (λ x. record { transition = k; label = x; cube = span n (startAt f ts k) x }) (labels n f (kindAt f ts k) (start ts k) (end ts k))
 
+  -- The required cubes of the m transitions from k on.
   abbrev pub requiredFrom : ℕ → ℕ → List Required
   requiredFrom k zero = []
   requiredFrom k (suc m) = requiredOf k ++ requiredFrom (suc k) m
@@ -63,6 +66,7 @@ module _ (n : ℕ) (f ts : List ℕ) where
   abbrev pub required : List Required
   required = requiredFrom 0 (count ts)
 
+  -- The privileged cubes of the m transitions from k on.
   abbrev pub privilegedFrom : ℕ → ℕ → List Privileged
   privilegedFrom k zero = []
   privilegedFrom k (suc m) =

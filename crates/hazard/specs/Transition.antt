@@ -16,13 +16,15 @@ value f x = getD f x 2
 abbrev pub off : List ℕ → ℕ → Bool
 off f x = eqb (value f x) 0
 
--- The list holds two numbers for each transition: where it starts and where it ends.
+-- Where transition k starts: the list holds two numbers for each transition.
 abbrev pub start : List ℕ → ℕ → ℕ
 start ts k = getD ts (2 * k) 0
 
+-- Where transition k ends.
 abbrev pub end : List ℕ → ℕ → ℕ
 end ts k = getD ts (2 * k + 1) 0
 
+-- How many transitions the list holds.
 abbrev pub count : List ℕ → ℕ
 count ts = length ts / 2
 
@@ -34,6 +36,7 @@ pub data Kind : Type 0 where
 abbrev pub kindOf : ℕ → Kind
 kindOf c = elim (eqb c 0) [ true ↦ low | false ↦ elim (eqb c 1) [ true ↦ rise | false ↦ elim (eqb c 2) [ true ↦ fall | false ↦ high ] ] ]
 
+-- The kind of the transition from a to b.
 abbrev pub kind : List ℕ → ℕ → ℕ → Kind
 kind f a b = kindOf (2 * value f a + value f b)
 

@@ -21,6 +21,7 @@ abbrev pub cut : ℕ → ℕ → List ℕ → Network
 cut n zero bytes = []
 cut n (suc count) bytes = take n bytes ∷ cut n count (drop n bytes)
 
+-- The products that a network's bytes stand for.
 abbrev pub products : ℕ → List ℕ → Network
 products n bytes = cut n (length bytes / n) bytes
 
@@ -38,6 +39,7 @@ digitsCheck n net =
 abbrev pub verifierChecks : ℕ → List ℕ → List ℕ → List ℕ → List (Option Refusal)
 verifierChecks n f ts bytes = inputChecks n f ts ++ (productsCheck n bytes ∷ digitsCheck n (products n bytes) ∷ [])
 
+-- The verdict, with what it names.
 pub data Verdict : Type 0 where
   refused : Refusal → Verdict
   passed : Verdict
@@ -68,6 +70,7 @@ firstFault a c b =
       | none ↦ elim c [ some p ↦ intersects (p .0) (p .1) | none ↦ elim b [ some r ↦ uncovered (r .transition) (r .label) | none ↦ passed ] ]
     ]
 
+-- The verdict on a network, where nothing is refused.
 abbrev pub fault : ℕ → List ℕ → List ℕ → Network → Verdict
 fault n f ts net = firstFault (faultA n (off f) net) (faultC (privileged n f ts) net) (faultB (required n f ts) net)
 

@@ -63,7 +63,7 @@ fn cover_with(
     )
 }
 
-// The same in room of its own, for at most 64 required cubes.
+// The network of at most 64 required cubes, in arrays of that size: an array is set to zero before it is used, and most problems need few.
 fn cover_few(
     n: usize,
     table: &[u8],
@@ -102,7 +102,7 @@ fn cover_few(
     )
 }
 
-// The same, for at most 2,048.
+// The network of at most 2,048 required cubes, in arrays of that size.
 fn cover_many(
     n: usize,
     table: &[u8],
@@ -141,7 +141,8 @@ fn cover_many(
     )
 }
 
-// The same, where the required cubes are counted. Room is set to zero before it is used: for the most part little is needed.
+// The network of a problem, whose required cubes are counted, written into the buffer; or its first blocking cube, and then nothing is
+// written.
 pub fn network_into(
     n: usize,
     table: &[u8],

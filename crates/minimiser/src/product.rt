@@ -47,9 +47,9 @@ fn grown_over(
     absorbed(n, off, privileged, legal, c, d)
 }
 
-// The dhf-implicant c grown over required cubes near it that lie in no product yet, where that stays legal, and expanded to a dhf-prime.
-// Those of the block of required cube i are tried, which is what c was made for; `columns` has the required cubes for its rows, and `uncovered`
-// is the set of those in no product. The growth over the others makes for fewer products; no promise rests on it.
+// A dhf-prime around the dhf-implicant c, which was made for required cube i. On the way c is grown over required cubes near it, where that
+// stays legal: those of the same block of 64 that are not covered yet. That makes for fewer products, and no promise rests on it. `columns`
+// has the required cubes for its rows, and `uncovered` is the set of those not covered.
 fn widened(
     n: usize,
     off: &[u64],

@@ -1,5 +1,5 @@
-// The points of a set under a mask from which a move further, on the way from one point to another, leads into a set, or does not. Where the
-// set has no points under the mask the moves are not looked at.
+// Moves between two sets of points, on the way from one point to another: which points of a word, under a mask, have such a move. Where no
+// point is left under the mask, no move is looked at.
 ghost use mathlib.Core.Path.{_≡_};
 ghost use Prim.Native.Nat.{_^_, _≤_, _<_};
 ghost use lib.ListN.{length};

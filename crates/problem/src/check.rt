@@ -182,7 +182,7 @@ fn check_planes(
     check_many(n, table, transitions, ones)
 }
 
-// Checks 6 to 8: what needs a table and transitions between its points. The planes are filled.
+// Checks 6 to 8, of a table of values and transitions between its points. They look at the table's planes, which are filled here.
 fn check_sense(
     n: usize,
     table: &[u8],

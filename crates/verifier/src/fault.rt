@@ -94,7 +94,8 @@ pub enum Verdict {
     Uncovered(u16, u16),
 }
 
-// The first fault: (a), then (c), then (b). The columns of the privileged cubes and of the products are lent with them, and room for a set of products.
+// The first fault: (a), then (c), then (b). `legal` has the columns of the privileged cubes, `columns` those of the products; `rows` is room
+// for a set of products.
 pub fn first_fault(
     n: usize,
     off: &[u64],

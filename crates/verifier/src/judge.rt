@@ -56,7 +56,8 @@ fn judge_with(
     )
 }
 
-// The same in room of its own, for at most 64 required cubes and 64 products.
+// The first fault, with at most 64 required cubes and 64 products, in arrays of that size: an array is set to zero before it is used, and
+// most problems need few.
 fn judge_few(
     n: usize,
     table: &[u8],
@@ -91,7 +92,7 @@ fn judge_few(
     )
 }
 
-// The same, for at most 2,048.
+// The first fault, with at most 2,048 required cubes and 2,048 products, in arrays of that size.
 fn judge_many(
     n: usize,
     table: &[u8],
@@ -126,7 +127,7 @@ fn judge_many(
     )
 }
 
-// The same, for any number, where the required cubes are counted. Room is set to zero before it is used: for the most part little is needed.
+// The first fault of a network, or none, for a problem whose required cubes are counted.
 pub fn judge(
     n: usize,
     table: &[u8],
