@@ -104,44 +104,50 @@ module _ (n : ℕ) (f ts : List ℕ) (accepted : Accepted n f ts) where
   pub minimal-few : {net : Network} → Minimal n f ts net → length net ≤ 2048
   minimal-few m = omega (arith, m .few, required-few n f ts accepted)
 
+-- For each way to make a check: the refusal that it gives,
+named : {most k t x : ℕ} → 1 ≤ most → 1 ≤ k → k < 32 → t ≤ 64 → x < 1024 → Bounded most (refusal k t x)
+named p a b c d = record { number-low = a; number = b; transition = c; point = d; steps = omega arith; lowest = omega arith; product = p }
+
+-- by a test,
+test-bounds : {most : ℕ} → 1 ≤ most → (b : Bool) (k : ℕ) → 1 ≤ k → k < 32 → (q : Refusal) → refuseIf b k ≡ some q → Bounded most q
+test-bounds {most} p true k l m q e = subst (Bounded most) (Option·some-injective _ _ e) (named p l m (omega arith) (omega arith))
+test-bounds p false k l m q e = none-some e
+
+-- by a search,
+search-bounds : {A : Type 0} {most : ℕ} (g : A → Refusal) (o : Option A) → ((a : A) → o ≡ some a → Bounded most (g a)) → (q : Refusal) → Option·map g o ≡ some q → Bounded most q
+search-bounds {A} {most} g o h q e = let (a, s, i) = map-eq-some-iff g o .0 e in subst (Bounded most) i (h a s)
+
+-- by a search for a transition and a point of it.
+place-bounds : {most size all : ℕ} → 1 ≤ most → size ≤ 64 → all ≤ 1024 → (k : ℕ) → 1 ≤ k → k < 32 → (test : ℕ → ℕ → Bool) (q : Refusal)
+    → Option·map (λ (p : ℕ × ℕ). refusal k (p .0) (p .1)) (firstPlace (λ t. first (test t) 0 all) 0 size) ≡ some q → Bounded most q
+place-bounds {most} {size} {all} p few small k a b test =
+    search-bounds (λ (p : ℕ × ℕ). refusal k (p .0) (p .1)) (firstPlace (λ t. first (test t) 0 all) 0 size) (λ i s.
+    let (l, m, h) = place-some (λ t. first (test t) 0 all) 0 size s in
+    named p a b (omega arith) (omega (arith, first-some (test (i .0)) 0 all h .1)))
+
 module _ (n : ℕ) (f ts : List ℕ) where
-  module _ (most : ℕ) (positive : 1 ≤ most) where
-    named : {k t x : ℕ} {q : Refusal} → 1 ≤ k → k < 32 → t ≤ 64 → x < 1024 → refusal k t x ≡ q → Bounded most q
-    named a b c d e = subst (Bounded most) e (record { number-low = a; number = b; transition = c; point = d; steps = omega arith; lowest = omega arith; product = omega arith })
-
-    bare : (b : Bool) (k : ℕ) → 1 ≤ k → k < 32 → (q : Refusal) → refuseIf b k ≡ some q → Bounded most q
-    bare true k l m q e = named l m (omega arith) (omega arith) (Option·some-injective _ _ e)
-    bare false k l m q e = none-some e
-
-    input-bounds : Each (Bounded most) (inputChecks n f ts)
-    input-bounds =
-        next (bare (eqb n 0 || ltb 10 n) 1 (omega arith) (omega arith)) (λ c1.
-        next (bare (not (eqb (length f) (2 ^ n))) 2 (omega arith) (omega arith)) (λ c2.
-        let all = points-few (inputs-few n c1 .1) in
-        next (λ q e. let (x, s, h) = map-eq-some-iff (λ x. refusal 3 0 x) (first (λ x. ltb 2 (value f x)) 0 (length f)) .0 e in
-            named (omega arith) (omega arith) (omega arith) (omega (arith, first-some (λ x. ltb 2 (value f x)) 0 (length f) s .1, length-whole n f c2)) h) (λ c3.
-        next (bare (eqb (length ts) 0 || (eqb (length ts % 2) 1 || ltb 64 (count ts))) 4 (omega arith) (omega arith)) (λ c4.
-        let few = list-few ts c4 .2 in
-        next (λ q e. let (k, s, h) = map-eq-some-iff (λ k. refusal 5 k 0) (first (λ k. leb (2 ^ n) (start ts k) || leb (2 ^ n) (end ts k)) 0 (count ts)) .0 e in
-            named (omega arith) (omega arith) (omega (arith, first-some (λ k. leb (2 ^ n) (start ts k) || leb (2 ^ n) (end ts k)) 0 (count ts) s .1)) (omega arith) h) (λ c5.
-        next (at-place 6 (omega arith) (omega arith) all few (λ k x. has (span n (start ts k) (end ts k)) x && eqb (value f x) 2)) (λ c6.
-        next (at-place 7 (omega arith) (omega arith) all few (λ k x. has (span n (start ts k) (end ts k)) x && breaks n f (kind f (start ts k) (end ts k)) (start ts k) (end ts k) x)) (λ c7.
-        next (bare (ltb 2048 (length (required n f ts))) 8 (omega arith) (omega arith)) (λ c8. tried))))))))
-      where
-        -- The first transition with a point that fails a test.
-        at-place : (number : ℕ) → 1 ≤ number → number < 32 → 2 ^ n ≤ 1024 → count ts ≤ 64 → (test : ℕ → ℕ → Bool) (q : Refusal)
-            → Option·map (λ (p : ℕ × ℕ). refusal number (p .0) (p .1)) (firstPlace (λ k. first (test k) 0 (2 ^ n)) 0 (count ts)) ≡ some q → Bounded most q
-        at-place number a b all few test q e =
-            let (p, s, h) = map-eq-some-iff (λ (p : ℕ × ℕ). refusal number (p .0) (p .1)) (firstPlace (λ k. first (test k) 0 (2 ^ n)) 0 (count ts)) .0 e in
-            let (l, m, i) = place-some (λ k. first (test k) 0 (2 ^ n)) 0 (count ts) s in
-            named a b (omega arith) (omega (arith, first-some (test (p .0)) 0 (2 ^ n) i .1)) h
+  -- The input rules.
+  input-bounds : {most : ℕ} → 1 ≤ most → Each (Bounded most) (inputChecks n f ts)
+  input-bounds p =
+      next (test-bounds p (eqb n 0 || ltb 10 n) 1 (omega arith) (omega arith)) (λ c1.
+      next (test-bounds p (not (eqb (length f) (2 ^ n))) 2 (omega arith) (omega arith)) (λ c2.
+      let all = points-few (inputs-few n c1 .1) in
+      next (search-bounds (λ x. refusal 3 0 x) (first (λ x. ltb 2 (value f x)) 0 (length f)) (λ x s.
+      named p (omega arith) (omega arith) (omega arith) (omega (arith, first-some (λ x. ltb 2 (value f x)) 0 (length f) s .1, length-whole n f c2)))) (λ c3.
+      next (test-bounds p (eqb (length ts) 0 || (eqb (length ts % 2) 1 || ltb 64 (count ts))) 4 (omega arith) (omega arith)) (λ c4.
+      let few = list-few ts c4 .2 in
+      next (search-bounds (λ k. refusal 5 k 0) (first (λ k. leb (2 ^ n) (start ts k) || leb (2 ^ n) (end ts k)) 0 (count ts)) (λ k s.
+      named p (omega arith) (omega arith) (omega (arith, first-some (λ k. leb (2 ^ n) (start ts k) || leb (2 ^ n) (end ts k)) 0 (count ts) s .1)) (omega arith))) (λ c5.
+      next (place-bounds p few all 6 (omega arith) (omega arith) (λ k x. has (span n (start ts k) (end ts k)) x && eqb (value f x) 2)) (λ c6.
+      next (place-bounds p few all 7 (omega arith) (omega arith) (λ k x. has (span n (start ts k) (end ts k)) x && breaks n f (kind f (start ts k) (end ts k)) (start ts k) (end ts k) x)) (λ c7.
+      next (test-bounds p (ltb 2048 (length (required n f ts))) 8 (omega arith) (omega arith)) (λ c8. tried))))))))
 
   -- A refusal of the minimiser.
   pub minimiser-bounds : (room : ℕ) {q : Refusal} → firstOf (minimiserChecks n f ts room) ≡ some q → Bounded 1 q
   minimiser-bounds room e =
       each-first (Bounded 1)
-      (each-append (Bounded 1) (input-bounds 1 (omega arith)) (λ a.
-      next (bare 1 (omega arith) (ltb room (n * length (required n f ts))) 9 (omega arith) (omega arith)) (λ c9. next (blocked-bounds n f ts a) (λ c10. tried)))) e
+      (each-append (Bounded 1) (input-bounds (omega arith)) (λ a.
+      next (test-bounds (omega arith) (ltb room (n * length (required n f ts))) 9 (omega arith) (omega arith)) (λ c9. next (blocked-bounds n f ts a) (λ c10. tried)))) e
 
   module _ (bytes : List ℕ) where
     -- What check 11 lets through has at most 2,048 products.
@@ -154,15 +160,15 @@ module _ (n : ℕ) (f ts : List ℕ) where
     pub verifier-bounds : {q : Refusal} → firstOf (verifierChecks n f ts bytes) ≡ some q → Bounded 2048 q
     verifier-bounds e =
         each-first (Bounded 2048)
-        (each-append (Bounded 2048) (input-bounds 2048 (omega arith)) (λ a.
-        next (bare 2048 (omega arith) (not (eqb (length bytes % n) 0) || ltb 2048 (length bytes / n)) 11 (omega arith) (omega arith)) (λ c11. next (digit c11) (λ c12. tried)))) e
+        (each-append (Bounded 2048) (input-bounds (omega arith)) (λ a.
+        next (test-bounds (omega arith) (not (eqb (length bytes % n) 0) || ltb 2048 (length bytes / n)) 11 (omega arith) (omega arith)) (λ c11. next (digit c11) (λ c12. tried)))) e
       where
         digit : productsCheck n bytes ≡ none → (q : Refusal) → digitsCheck n (products n bytes) ≡ some q → Bounded 2048 q
-        digit c q e =
-            let (j, s, h) = map-eq-some-iff {B = Refusal} (λ j. record { number = 12; transition = 0; point = 0; steps = 0; lowest = 0; product = j })
-                (first (λ j. not (isProduct n (productAt (products n bytes) j))) 0 (length (products n bytes))) .0 e in
+        digit c =
+            search-bounds (λ j. record { number = 12; transition = 0; point = 0; steps = 0; lowest = 0; product = j })
+            (first (λ j. not (isProduct n (productAt (products n bytes) j))) 0 (length (products n bytes))) (λ j s.
             let b : j < 2048 = omega (arith, first-some (λ j. not (isProduct n (productAt (products n bytes) j))) 0 (length (products n bytes)) s .1, products-few c) in
-            subst (Bounded 2048) h (record { number-low = omega arith; number = omega arith; transition = omega arith; point = omega arith; steps = omega arith; lowest = omega arith; product = b })
+            record { number-low = omega arith; number = omega arith; transition = omega arith; point = omega arith; steps = omega arith; lowest = omega arith; product = b })
 
     -- Every verdict, of refused input too.
     pub verdict-bounds : BoundedMark (mark (verdict n f ts bytes))
