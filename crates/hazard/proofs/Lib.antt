@@ -29,6 +29,7 @@ pub mod Theorem
 pub mod Verdict
 pub mod Minimal
 pub mod Promise
+pub mod Bounds
 -- The set pieces.
 pub mod Essential
 pub mod Pieces

@@ -1,7 +1,7 @@
 -- What a check finds has that check's number.
 use mathlib.Core.Path.{_≡_, refl, sym, ap, subst, _∙_}
 use mathlib.Core.Bool.{Bool, true, false, not, _||_}
-use mathlib.Core.List.{List, [], _∷_, _++_, map}
+use mathlib.Core.List.{List, [], _∷_, _++_}
 use mathlib.Core.Option.{Option, none, some, Option·map, Option·some-injective}
 use Prim.Native.Nat.{ℕ, _/_, _%_, _^_, _*_}
 use lib.Dec.{T, eqb, leb, ltb}

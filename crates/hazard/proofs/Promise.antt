@@ -1,7 +1,6 @@
 -- The minimiser's promise, from its two ways to answer.
 use mathlib.Core.Path.{_≡_, refl, sym, ap, _∙_}
-use mathlib.Core.Logic.{_↔_}
-use mathlib.Core.List.{List, [], _∷_, _++_, List·Memᴰ}
+use mathlib.Core.List.{List, [], _∷_, _++_}
 use mathlib.Core.Option.{Option, none, some, Option·some-injective}
 use Prim.Native.Nat.{ℕ, _*_}
 use native.Mathlib.Omega.{arith}
@@ -9,7 +8,7 @@ use lib.ListN.{length, drop}
 use Rattle.hazard.specs.Search.{firstOf}
 use Rattle.hazard.specs.Cover.{Network}
 use Rattle.hazard.specs.Refusal.{Refusal, inputChecks, Accepted}
-use Rattle.hazard.specs.Minimal.{roomCheck, blocking, minimiserChecks, Minimal, Minimised, written, declined, bytesOf, NoNetwork, Promise}
+use Rattle.hazard.specs.Minimal.{roomCheck, blocking, minimiserChecks, Minimal, written, declined, bytesOf, Promise}
 use Rattle.hazard.proofs.Search.{none-some, firstOf-append, firstOf-right, firstOf-one}
 use Rattle.hazard.proofs.Numbers.{block-number, ten-blocks}
 use Rattle.hazard.proofs.Minimal.{exists-iff, first-blocking}

@@ -52,6 +52,12 @@ none-first test from size h = go (first test from size) (first-is test from size
     go none v = refl
     go (some x) (lowest t l m k) = absurd (h x l m t)
 
+pub first-some : (test : ℕ → Bool) (from size : ℕ) {x : ℕ} → first test from size ≡ some x → (from ≤ x) × (x < from + size) × T (test x)
+first-some test from size {x} e = go (subst (First test from size) e (first-is test from size))
+  where
+    go : First test from size (some x) → (from ≤ x) × (x < from + size) × T (test x)
+    go (lowest t l m h) = (l, m, t)
+
 -- Some number below size passes.
 pub any-e : (test : ℕ → Bool) (size : ℕ) → T (found (first test 0 size)) → (i : ℕ) × (i < size) × T (test i)
 any-e test size = go (first test 0 size) (first-is test 0 size)
@@ -145,6 +151,12 @@ place-none look from size = go (firstPlace look from size) (place-is look from s
     go : (o : Option (ℕ × ℕ)) → Place look from size o → (o ≡ none) ↔ ((k : ℕ) → from ≤ k → k < from + size → look k ≡ none)
     go none (empty h) = (λ e. h, λ k. refl)
     go (some p) (placed l m e h) = (λ q. none-some (sym q), λ k. none-some (sym (k _ l m) ∙ e))
+
+pub place-some : (look : ℕ → Option ℕ) (from size : ℕ) {p : ℕ × ℕ} → firstPlace look from size ≡ some p → (from ≤ p .0) × (p .0 < from + size) × (look (p .0) ≡ some (p .1))
+place-some look from size {p} e = go (subst (Place look from size) e (place-is look from size))
+  where
+    go : Place look from size (some p) → (from ≤ p .0) × (p .0 < from + size) × (look (p .0) ≡ some (p .1))
+    go (placed l m h i) = (l, m, h)
 
 -- A list of searches finds nothing exactly where none of them does.
 pub firstOf-none : {A : Type 0} (l : List (Option A)) → (firstOf l ≡ none) ↔ ((i : ℕ) → getD l i none ≡ none)

@@ -4,10 +4,10 @@ use mathlib.Core.Logic.{_↔_}
 use mathlib.Core.Bool.{not, _&&_}
 use mathlib.Core.List.{List, [], _∷_, _++_, List·Memᴰ}
 use mathlib.Core.Option.{Option, none, some, Option·map, map-eq-none-iff, Option·some-injective}
-use Prim.Native.Nat.{ℕ, _+_, _^_, _≤_, _<_}
+use Prim.Native.Nat.{ℕ, zero, suc, _+_, _/_, _^_, _≤_, _<_}
 use native.Mathlib.Omega.{arith}
 use lib.Dec.{T, T-not}
-use lib.ListN.{length}
+use lib.ListN.{length, drop}
 use Rattle.hazard.specs.Search.{first, find, firstOf}
 use Rattle.hazard.specs.Cube.{Cube, isProduct, has}
 use Rattle.hazard.specs.Transition.{off}
@@ -16,11 +16,19 @@ use Rattle.hazard.specs.Implicant.{illegal, lowestZero}
 use Rattle.hazard.specs.Cover.{Network, productAt, WellFormed, covered, HazardFreeCover}
 use Rattle.hazard.specs.HazardFree.{HazardFree}
 use Rattle.hazard.specs.Refusal.{Refusal, inputChecks, Accepted}
-use Rattle.hazard.specs.Verdict.{products, productsCheck, digitsCheck, verifierChecks, Verdict, refused, passed, holdsZero, intersects, uncovered, faultA, faultC, faultB, firstFault, fault, verdict, Verified, mark}
+use Rattle.hazard.specs.Verdict.{cut, products, productsCheck, digitsCheck, verifierChecks, Verdict, refused, passed, holdsZero, intersects, uncovered, faultA, faultC, faultB, firstFault, fault, verdict, Verified, mark}
 use Rattle.hazard.proofs.Test.{T-and, sure}
 use Rattle.hazard.proofs.Search.{none-some, first-none, none-first, find-none, place-none, firstOf-none, firstOf-append, First, lowest, first-is, Find, hit, find-is, Earlier, Place, placed, place-is}
 use Rattle.hazard.proofs.Network.{entry-at, at-places}
 use Rattle.hazard.proofs.Theorem.{cover-hazard-free}
+
+-- How many products a network's bytes are cut into.
+cut-length : (n count : ℕ) (bytes : List ℕ) → length (cut n count bytes) ≡ count
+cut-length n zero bytes = refl
+cut-length n (suc count) bytes = ap suc (cut-length n count (drop n bytes))
+
+pub products-length : (n : ℕ) (bytes : List ℕ) → length (products n bytes) ≡ length bytes / n
+products-length n bytes = cut-length n (length bytes / n) bytes
 
 -- Conditions (a) and (c) of a product.
 abbrev pub ConditionA : ℕ → List ℕ → Cube → Type 0

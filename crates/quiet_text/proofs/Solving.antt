@@ -1,29 +1,28 @@
 -- From the minimiser's promise to the program's.
-use mathlib.Core.Logic.{_↔_, _≢_}
+use mathlib.Core.Logic.{_≢_}
 use mathlib.Core.Path.{_≡_, refl, sym, ap, ap₂, subst, _∙_}
-use mathlib.Core.Bool.{Bool, true, false, not, _||_}
+use mathlib.Core.Bool.{Bool, false}
 use mathlib.Core.List.{List, [], _∷_, _++_, List·Memᴰ, List·Memᴰ·head, List·Memᴰ·tail, map, append-assoc}
-use mathlib.Core.Option.{Option, none, some, Option·map, Option·some-injective}
-use Prim.Native.Nat.{ℕ, zero, suc, _+_, _*_, _%_, _^_, _≤_, _<_}
+use mathlib.Core.Option.{Option, none, some, Option·some-injective}
+use Prim.Native.Nat.{ℕ, zero, suc, _+_, _*_, _≤_}
 use native.Mathlib.Nat.{mul-le-mul, zero-mul, suc-mul}
 use native.Mathlib.Omega.{arith}
-use lib.Dec.{T, eqb, leb, ltb}
+use lib.Dec.{T, ltb}
 use lib.ListN.{length, getD, take, drop, length-append, length-map}
-use lib.Seq.{take-at, drop-at, sets, sets-eq}
+use lib.Seq.{take-at, drop-at, sets-eq}
 use borrow.Author.Tests.{le-ltb}
-use Rattle.hazard.specs.Search.{first, firstPlace, firstOf}
-use Rattle.hazard.specs.Transition.{value, start, end, count, brokenAt, undefinedAt}
+use Rattle.hazard.specs.Search.{firstOf}
 use Rattle.hazard.specs.Cube.{Cube, isProduct}
 use Rattle.hazard.specs.Sets.{required}
 use Rattle.hazard.specs.Cover.{Network}
 use Rattle.hazard.specs.Verdict.{cut}
-use Rattle.hazard.specs.Refusal.{Refusal, refusal, refuseIf, inputChecks, Accepted}
+use Rattle.hazard.specs.Refusal.{Refusal, refuseIf, inputChecks, Accepted}
 use Rattle.hazard.specs.Minimal as minimal
-use Rattle.hazard.specs.Minimal.{roomCheck, blocking, minimiserChecks, Minimal, Minimised, written, declined, bytesOf, NoNetwork}
+use Rattle.hazard.specs.Minimal.{roomCheck, blocking, minimiserChecks, Minimal, Minimised, written, declined, bytesOf}
 use Rattle.hazard.proofs.Test.{T-and}
 use Rattle.hazard.proofs.Search.{none-some, firstOf-left, firstOf-right, firstOf-one, firstOf-append}
 use Rattle.hazard.proofs.Rules.{few-inputs, required-few}
-use Rattle.hazard.proofs.Numbers.{block-number}
+use Rattle.hazard.proofs.Numbers.{block-number, no-more, next, numbers-append, listed, number-listed, input-numbers}
 use Rattle.problem_text.specs.Decimal.{decimal}
 use Rattle.problem_text.specs.Form.{newline, cell}
 use Rattle.answer_text.specs.Output.{productsHead, productLines, networkText, field, refusalText}
@@ -32,44 +31,12 @@ use Rattle.quiet_text.specs.Answer.{checks, Printed, Solved}
 use Rattle.problem_text.proofs.Decimal.{spelled-length}
 use Rattle.answer_text.proofs.Replies.{lines-most}
 
--- What every check of a list finds has a property; so has what the first one finds.
-data Each (P : Refusal → Type 0) : List (Option Refusal) → Type 0 where
-  none-left : Each P []
-  also : {o : Option Refusal} {l : List (Option Refusal)} → ((q : Refusal) → o ≡ some q → P q) → Each P l → Each P (o ∷ l)
-
-each-first : (P : Refusal → Type 0) (l : List (Option Refusal)) {q : Refusal} → Each P l → firstOf l ≡ some q → P q
-each-first P [] none-left e = none-some e
-each-first P (none ∷ l) (also h t) e = each-first P l t e
-each-first P (some p ∷ l) {q} (also h t) e = h q e
-
--- The number of what a check refuses with.
-number-if : (b : Bool) (k : ℕ) (q : Refusal) → refuseIf b k ≡ some q → q .number ≡ k
-number-if true k q e = sym (ap (λ (r : Refusal). r .number) (Option·some-injective _ _ e))
-number-if false k q e = none-some e
-
-number-of : {A : Type 0} (k : ℕ) (g : A → Refusal) → ((a : A) → g a .number ≡ k) → (o : Option A) (q : Refusal) → Option·map g o ≡ some q → q .number ≡ k
-number-of k g h none q e = none-some e
-number-of k g h (some a) q e = sym (ap (λ (r : Refusal). r .number) (Option·some-injective _ _ e)) ∙ h a
-
 module _ (n : ℕ) (f ts : List ℕ) where
   -- 9 is none of the numbers.
   pub never-nine : (q : Refusal) → firstOf (checks n f ts) ≡ some q → q .number ≢ 9
-  never-nine q e = each-first (λ q. q .number ≢ 9) (checks n f ts) {q = q} numbers e
-    where
-      other : {o : Option Refusal} {k : ℕ} → ((q : Refusal) → o ≡ some q → q .number ≡ k) → k ≢ 9 → (q : Refusal) → o ≡ some q → q .number ≢ 9
-      other h l q e m = l (sym (h q e) ∙ m)
-
-      numbers : Each (λ q. q .number ≢ 9) (checks n f ts)
-      numbers =
-          also (other {k = 1} (number-if (eqb n 0 || ltb 10 n) 1) (λ e. omega (arith, e)))
-          (also (other {k = 2} (number-if (not (eqb (length f) (2 ^ n))) 2) (λ e. omega (arith, e)))
-          (also (other {k = 3} (number-of 3 (λ x. refusal 3 0 x) (λ x. refl) (first (λ x. ltb 2 (value f x)) 0 (length f))) (λ e. omega (arith, e)))
-          (also (other {k = 4} (number-if (eqb (length ts) 0 || (eqb (length ts % 2) 1 || ltb 64 (count ts))) 4) (λ e. omega (arith, e)))
-          (also (other {k = 5} (number-of 5 (λ k. refusal 5 k 0) (λ k. refl) (first (λ k. leb (2 ^ n) (start ts k) || leb (2 ^ n) (end ts k)) 0 (count ts))) (λ e. omega (arith, e)))
-          (also (other {k = 6} (number-of 6 (λ p. refusal 6 (p .0) (p .1)) (λ p. refl) (firstPlace (λ k. undefinedAt n f (start ts k) (end ts k)) 0 (count ts))) (λ e. omega (arith, e)))
-          (also (other {k = 7} (number-of 7 (λ p. refusal 7 (p .0) (p .1)) (λ p. refl) (firstPlace (λ k. brokenAt n f (start ts k) (end ts k)) 0 (count ts))) (λ e. omega (arith, e)))
-          (also (other {k = 8} (number-if (ltb 2048 (length (required n f ts))) 8) (λ e. omega (arith, e)))
-          (also (other {k = 10} (block-number n f ts) (λ e. omega (arith, e))) none-left))))))))
+  never-nine q e h =
+      subst (λ (k : ℕ). T (listed k (1 ∷ 2 ∷ 3 ∷ 4 ∷ 5 ∷ 6 ∷ 7 ∷ 8 ∷ 10 ∷ []))) h
+      (number-listed (numbers-append (input-numbers n f ts) (next (block-number n f ts) no-more)) e)
 
   module _ {room : ℕ} (h : 20480 ≤ room) where
     -- The room is enough, so check 9 finds nothing.

@@ -45,8 +45,9 @@ fn reply_with(
     solve(n, &table[0..k], &transitions[0..t], cover, out)
 }
 
-// The same, in room of its own.
-fn reply(text: &[u8], out: &mut [u8]) -> usize
+// How many bytes the output for a text has, which stand at the buffer's beginning. The buffer has room for every output: 22,543 bytes, a
+// head of 9, a count of 5, an end of line, and 2,048 lines of 11.
+pub fn reply(text: &[u8], out: &mut [u8]) -> usize
     requires { ⌜ 22543 ≤ length (now out) ⌝ }
     ensures { λ r. ⌜ Promise (now (text .entry)) (now (out .entry)) (now (out .exit)) (some r) ⌝ }
 {
@@ -56,8 +57,7 @@ fn reply(text: &[u8], out: &mut [u8]) -> usize
     reply_with(text, &mut table, &mut transitions, &mut cover, out)
 }
 
-// The output for a text: the products of a network, or a refusal. It needs 22,543 bytes of room at most: a head of 9, a count of 5,
-// an end of line, and 2,048 lines of 11.
+// The output for a text, in a buffer of any length: the products of a network, or a refusal.
 pub fn answer(text: &[u8], out: &mut [u8]) -> Output
     ensures { λ r. ⌜ Promise (now (text .entry)) (now (out .entry)) (now (out .exit)) (writtenOf r) ⌝ }
 {

@@ -1,5 +1,5 @@
 -- A network's bytes, product by product.
-use mathlib.Core.Path.{_≡_, refl, sym, ap, _∙_}
+use mathlib.Core.Path.{_≡_, sym, ap, _∙_}
 use mathlib.Core.Bool.{Bool, true, false, not, _&&_}
 use mathlib.Core.List.{List, [], _∷_}
 use Prim.Native.Nat.{ℕ, zero, suc, _+_, _-_, _*_, _/_, _≤_, _<_}
@@ -18,6 +18,7 @@ use Rattle.hazard.specs.Refusal.{Refusal}
 use Rattle.hazard.specs.Verdict.{cut, products, digitsCheck}
 use Rattle.hazard.proofs.Test.{T-and}
 use Rattle.hazard.proofs.Network.{entry-at}
+use Rattle.hazard.proofs.Verdict.{products-length}
 use Rattle.verifier.specs.Network.{badProduct, Sound}
 
 -- The product at a place is looked at digit by digit: at i the whole answer is that of the digits from i on.
@@ -46,17 +47,10 @@ pub digitwise-end : {n : ℕ} {bytes : List ℕ} {at i : ℕ} → Digitwise n by
 digitwise-end {n} {bytes} {at} {i} s h = let e : isProduct (n - i) (take (n - i) (drop (at + i) bytes)) ≡ true = rw (sub-eq-zero-of-le h) in sym (ap not (s .same ∙ e))
 
 -- The products that a network's bytes are cut into.
-cut-length : (n count : ℕ) (bytes : List ℕ) → length (cut n count bytes) ≡ count
-cut-length n zero bytes = refl
-cut-length n (suc count) bytes = ap suc (cut-length n count (drop n bytes))
-
 cut-at : (n count : ℕ) (bytes : List ℕ) (j : ℕ) → j < count → productAt (cut n count bytes) j ≡ take n (drop (j * n) bytes)
 cut-at n zero bytes j h = absurd (not-suc-le-zero h)
 cut-at n (suc count) bytes zero h = rw zero-mul
 cut-at n (suc count) bytes (suc j) h = cut-at n count (drop n bytes) j (le-of-suc-le-suc h) ∙ rw (drop-drop, suc-mul, add-comm (j * n) n)
-
-pub products-length : (n : ℕ) (bytes : List ℕ) → length (products n bytes) ≡ length bytes / n
-products-length n bytes = cut-length n (length bytes / n) bytes
 
 pub products-at : (n : ℕ) (bytes : List ℕ) (j : ℕ) → j < length bytes / n → productAt (products n bytes) j ≡ take n (drop (j * n) bytes)
 products-at n bytes j h = cut-at n (length bytes / n) bytes j h

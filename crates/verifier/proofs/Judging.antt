@@ -17,7 +17,7 @@ use Rattle.cube.proofs.Word.{taken-clean}
 use Rattle.problem.specs.Store.{StoredSets}
 use Rattle.choice.specs.Network.{cubeIn, networkIn}
 use Rattle.verifier.specs.Network.{Sound, Read}
-use Rattle.verifier.proofs.Bytes.{products-length}
+use Rattle.hazard.proofs.Verdict.{products-length}
 
 -- A part from 0 has no more words than the whole.
 pub part-few : (l : List ℕ) (b : ℕ) → length l ≤ b → (k : ℕ) → length (take k l) ≤ b

@@ -1,8 +1,11 @@
-use mathlib.Core.Path.{sym, ap, _∙_}
+use mathlib.Core.Path.{sym, ap, subst, _∙_}
+use Prim.Native.Nat.{_<_}
 use borrow.Author.Needs.{needs}
+use Rattle.problem.specs.Answer.{refusalOf}
 use Rattle.minimiser.specs.Answer.{minimisedOf}
 use Rattle.minimiser.specs.declared.network.Minimised.{Minimised}
-use Rattle.quiet_c.specs.Packed.{packedAnswer}
+use Rattle.quiet_c.specs.Packed.{RefusalFits, AnswerFits}
+use Rattle.quiet_c.proofs.Exact.{written-exact, declined-exact}
 use Rattle.quiet_c.proofs.packed_answer.Statement.{statement}
 use Rattle.quiet_c.proofs.packed_answer.Tie as tie
 
@@ -10,19 +13,25 @@ enum-known-m : tie.Need-enum-known-m
 enum-known-m c = search needs
 
 mul-result : tie.Need-mul-result
-mul-result c = search needs
+mul-result c =
+    let h : c .before .m .given .0 .0 < 65536 = subst (λ (m : Minimised). AnswerFits (minimisedOf m)) (c .before .m .given .1) (c .before .before .before .pre) in
+    search needs
 
 enum-known-m-2 : tie.Need-enum-known-m-2
 enum-known-m-2 c = search needs
 
 packed-refusal-requires : tie.Need-packed-refusal-requires
-packed-refusal-requires c κs = search needs
+packed-refusal-requires c κs = subst (λ (m : Minimised). AnswerFits (minimisedOf m)) (c .before .m2 .given .1) (c .before .before .before .pre)
 
 returns : tie.Need-returns
-returns c = sym (ap (λ (m : Minimised). packedAnswer (minimisedOf m)) (c .before .m .given .1))
+returns c = written-exact (c .before .m .given .0 .0) ∙ sym (ap minimisedOf (c .before .m .given .1))
 
 returns-2 : tie.Need-returns-2
-returns-2 c = c .packed-refusal .ensures ∙ sym (ap (λ (m : Minimised). packedAnswer (minimisedOf m)) (c .before .before .m2 .given .1))
+returns-2 c =
+    let s = c .before .before .before .before in
+    let g = c .before .before .m2 .given in
+    let h : RefusalFits (refusalOf (g .0 .0)) = subst (λ (m : Minimised). AnswerFits (minimisedOf m)) (g .1) (s .pre) in
+    declined-exact (c .packed-refusal .result) (h .number-low) (c .packed-refusal .ensures) ∙ sym (ap minimisedOf (g .1))
 
 pub packed-answer-spec : {M : Type 1} → statement M
 packed-answer-spec =

@@ -1,6 +1,6 @@
-use mathlib.Core.Path.{ap, _∙_}
 use borrow.Author.Needs.{needs}
-use Rattle.quiet_c.specs.Packed.{packedMark}
+use Rattle.verifier.specs.Answer.{verdictOf}
+use Rattle.quiet_c.proofs.Exact.{verified-fits}
 use Rattle.quiet_c.proofs.quiet_verify.Statement.{statement}
 use Rattle.quiet_c.proofs.quiet_verify.Tie as tie
 
@@ -8,10 +8,12 @@ verify-requires : tie.Need-verify-requires
 verify-requires c κs = search needs
 
 packed-verdict-requires : tie.Need-packed-verdict-requires
-packed-verdict-requires c κs = search needs
+packed-verdict-requires c κs = verified-fits (c .verify .ensures)
 
 returns : tie.Need-returns
-returns c = c .packed-verdict .ensures ∙ ap packedMark (c .before .verify .ensures .marked)
+returns c =
+    let v = c .before .verify in
+    record { verdict = verdictOf (v .result); verified = v .ensures; is = c .packed-verdict .ensures }
 
 pub quiet-verify-spec : {M : Type 1} → statement M
 quiet-verify-spec = tie.close (tie.spec verify-requires packed-verdict-requires returns)
