@@ -10,12 +10,12 @@ use lib.ListN.{length}
 use lib.Pow.{pow-mono}
 use Rattle.hazard.specs.Search.{first, firstPlace, firstOf}
 use Rattle.hazard.specs.Cube.{has, span, isProduct}
-use Rattle.hazard.specs.Transition.{value, off, start, end, count, Kind, low, rise, fall, high, kind, breaks}
-use Rattle.hazard.specs.Sets.{Required, Privileged, labels, last, kindAt, required, privileged}
+use Rattle.hazard.specs.Transition.{value, off, start, end, count, Kind, low, rise, fall, high, kind, functionHazard}
+use Rattle.hazard.specs.Sets.{Required, Privileged, labels, maximalLabel, kindAt, required, privileged}
 use Rattle.hazard.specs.Growth.{Growth, Legal, Blocked, steps, grow}
 use Rattle.hazard.specs.Cover.{Network, productAt}
 use Rattle.hazard.specs.Refusal.{Refusal, refusal, refuseIf, inputChecks, Accepted}
-use Rattle.hazard.specs.Verdict.{products, productsCheck, digitsCheck, verifierChecks, Verdict, refused, fault, verdict, Mark, mark}
+use Rattle.hazard.specs.Verdict.{products, productsCheck, digitsCheck, verifierChecks, Verdict, refused, fault, verdict, Fields, fieldsOf}
 use Rattle.hazard.specs.Minimal.{blockedBy, blockCheck, blocking, minimiserChecks, Minimal}
 use Rattle.hazard.proofs.Test.{no-or}
 use Rattle.hazard.proofs.Search.{none-some, first-some, place-some, those-e, firstOf-none, firstOf-append, firstOf-some}
@@ -35,7 +35,7 @@ pub record Bounded (most : ℕ) (q : Refusal) : Type 0 where
   pub product : q .product < most
 
 -- The number and the fields of a verdict.
-pub record BoundedMark (m : Mark) : Type 0 where
+pub record BoundedFields (m : Fields) : Type 0 where
   pub number : m .number < 5
   pub refusal : m .refusal < 32
   pub product : m .product < 2048
@@ -61,8 +61,8 @@ each-append P (next {o = some p} {l = l} h t) u = next h (λ e. none-some (sym e
 -- A label of a transition is a point.
 label-point : (n : ℕ) (f : List ℕ) (k : Kind) (a b : ℕ) {x : ℕ} → b < 2 ^ n → List·Memᴰ x (labels n f k a b) → x < 2 ^ n
 label-point n f low a b h m = absurd (List·Memᴰ·not-nil m)
-label-point n f rise a b h m = omega (arith, those-e (last n f b a) 0 (2 ^ n) m .1)
-label-point n f fall a b h m = omega (arith, those-e (last n f a b) 0 (2 ^ n) m .1)
+label-point n f rise a b h m = omega (arith, those-e (maximalLabel n f b a) 0 (2 ^ n) m .1)
+label-point n f fall a b h m = omega (arith, those-e (maximalLabel n f a b) 0 (2 ^ n) m .1)
 label-point n f high a b h m = omega (arith, List·Memᴰ·eq-of-singleton m)
 
 -- There are at most 1,024 points.
@@ -139,7 +139,7 @@ module _ (n : ℕ) (f ts : List ℕ) where
       next (search-bounds (λ k. refusal 5 k 0) (first (λ k. leb (2 ^ n) (start ts k) || leb (2 ^ n) (end ts k)) 0 (count ts)) (λ k s.
       named p (omega arith) (omega arith) (omega (arith, first-some (λ k. leb (2 ^ n) (start ts k) || leb (2 ^ n) (end ts k)) 0 (count ts) s .1)) (omega arith))) (λ c5.
       next (place-bounds p few all 6 (omega arith) (omega arith) (λ k x. has (span n (start ts k) (end ts k)) x && eqb (value f x) 2)) (λ c6.
-      next (place-bounds p few all 7 (omega arith) (omega arith) (λ k x. has (span n (start ts k) (end ts k)) x && breaks n f (kind f (start ts k) (end ts k)) (start ts k) (end ts k) x)) (λ c7.
+      next (place-bounds p few all 7 (omega arith) (omega arith) (λ k x. has (span n (start ts k) (end ts k)) x && functionHazard n f (kind f (start ts k) (end ts k)) (start ts k) (end ts k) x)) (λ c7.
       next (test-bounds p (ltb 2048 (length (required n f ts))) 8 (omega arith) (omega arith)) (λ c8. tried))))))))
 
   -- A refusal of the minimiser.
@@ -171,14 +171,14 @@ module _ (n : ℕ) (f ts : List ℕ) where
             record { number-low = omega arith; number = omega arith; transition = omega arith; point = omega arith; steps = omega arith; lowest = omega arith; product = b })
 
     -- Every verdict, of refused input too.
-    pub verdict-bounds : BoundedMark (mark (verdict n f ts bytes))
+    pub verdict-bounds : BoundedFields (fieldsOf (verdict n f ts bytes))
     verdict-bounds = go (firstOf (verifierChecks n f ts bytes)) refl
       where
         small : {number product transition point : ℕ} → number < 5 → product < 2048 → transition ≤ 64 → point < 1024
-            → BoundedMark (record { number = number; refusal = 0; product = product; transition = transition; point = point })
+            → BoundedFields (record { number = number; refusal = 0; product = product; transition = transition; point = point })
         small a b c d = record { number = a; refusal = omega arith; product = b; transition = c; point = d }
 
-        judged : Accepted n f ts → length (products n bytes) ≤ 2048 → {v : Verdict} → Named n f ts (products n bytes) v → BoundedMark (mark v)
+        judged : Accepted n f ts → length (products n bytes) ≤ 2048 → {v : Verdict} → Named n f ts (products n bytes) v → BoundedFields (fieldsOf v)
         judged a l (none-named h) = small (omega arith) (omega arith) (omega arith) (omega arith)
         judged a l (zero-named i x t o h k) = small (omega arith) (omega arith) (omega arith) (omega (arith, points-few (few-inputs n f ts a .1)))
         judged a l (illegal-named {v = v} i m t h k w) = small (omega arith) (omega arith) (omega (arith, privileged-bounds n f ts a v m, list-length n f ts a .2)) (omega arith)
@@ -186,7 +186,7 @@ module _ (n : ℕ) (f ts : List ℕ) where
             let (b, c) = required-bounds n f ts a r m in
             small (omega arith) (omega arith) (omega (arith, list-length n f ts a .2)) (omega (arith, points-few (few-inputs n f ts a .1)))
 
-        go : (o : Option Refusal) → firstOf (verifierChecks n f ts bytes) ≡ o → BoundedMark (mark (elim o [ some q ↦ refused q | none ↦ fault n f ts (products n bytes) ]))
+        go : (o : Option Refusal) → firstOf (verifierChecks n f ts bytes) ≡ o → BoundedFields (fieldsOf (elim o [ some q ↦ refused q | none ↦ fault n f ts (products n bytes) ]))
         go (some q) e = let b = verifier-bounds e in record { number = omega arith; refusal = b .number; product = b .product; transition = b .transition; point = b .point }
         go none e =
             let rest = firstOf-append (inputChecks n f ts) (productsCheck n bytes ∷ digitsCheck n (products n bytes) ∷ []) .0 e .1 in

@@ -8,7 +8,7 @@ use native.Mathlib.Decide.{decLt}
 use lib.Dec.{T}
 use Rattle.hazard.specs.Cube.{bit, flip, has, span}
 use Rattle.hazard.specs.Transition.{value, further}
-use Rattle.hazard.specs.Sets.{last}
+use Rattle.hazard.specs.Sets.{maximalLabel}
 use Rattle.hazard.proofs.Test.{tests, known}
 use Rattle.hazard.proofs.Cube.{Inside, has→, →has, inside-has, span-digits, span-left, span-right, span-least, fixed, fixed-le, inside-tight}
 use Rattle.hazard.proofs.Point.{bit-lt, In, in-e, in-i, flip-same, flip-lt}
@@ -31,7 +31,7 @@ module _ (n : ℕ) (f : List ℕ) (s e : ℕ) where
           let c : bit (flip x i) i ≡ bit e i = omega (arith, m .early, m .differs, bit-lt x i, bit-lt s i, bit-lt e i) in
           let z = h i (m .input) c in omega (arith, bit-lt x i)
 
-  climb : (fuel x : ℕ) → n < fuel + fixed (span n x e) → x < 2 ^ n → In n s e x → value f x ≡ 1 → (y : ℕ) × (y < 2 ^ n) × T (last n f s e y) × In n s y x
+  climb : (fuel x : ℕ) → n < fuel + fixed (span n x e) → x < 2 ^ n → In n s e x → value f x ≡ 1 → (y : ℕ) × (y < 2 ^ n) × T (maximalLabel n f s e y) × In n s y x
   climb zero x h l r v = absurd (omega (arith, fixed-le (span-digits n x e)))
   climb (suc fuel) x h l r v =
       elim (known (further n f s e x 1)) [
@@ -42,9 +42,9 @@ module _ (n : ℕ) (f : List ℕ) (s e : ℕ) where
       ]
 
   -- Every 1 of [s,e] lies in [s,y] for a label y.
-  pub label-of : (x : ℕ) → x < 2 ^ n → In n s e x → value f x ≡ 1 → (y : ℕ) × (y < 2 ^ n) × T (last n f s e y) × In n s y x
+  pub label-of : (x : ℕ) → x < 2 ^ n → In n s e x → value f x ≡ 1 → (y : ℕ) × (y < 2 ^ n) × T (maximalLabel n f s e y) × In n s y x
   label-of x = climb (suc n) x (omega arith)
 
   -- A label is a 1 of [s,e].
-  pub label-one : (x : ℕ) → T (last n f s e x) → T (has (span n s e) x) × (value f x ≡ 1)
+  pub label-one : (x : ℕ) → T (maximalLabel n f s e x) → T (has (span n s e) x) × (value f x ≡ 1)
   label-one x t = let r = simp tests at t in (r .0, r .1 .0)

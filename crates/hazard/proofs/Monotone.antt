@@ -8,7 +8,7 @@ use native.Mathlib.Omega.{arith}
 use native.Mathlib.Decide.{ℕ-discrete}
 use lib.Dec.{T, eqb}
 use Rattle.hazard.specs.Cube.{bit, flip, has, span}
-use Rattle.hazard.specs.Transition.{value, movable, further, turnsBack}
+use Rattle.hazard.specs.Transition.{value, movable, further, dynamicHazard}
 use Rattle.hazard.proofs.Test.{tests}
 use Rattle.hazard.proofs.Search.{any-e, any-i}
 use Rattle.hazard.proofs.Point.{bits-same, In, in-e, in-i, span-swap, flip-same, flip-other, flip-lt, flip-back}
@@ -45,10 +45,10 @@ pub further-i : (n : ℕ) (f : List ℕ) (a b x i v : ℕ) → Moves n a b x i �
 further-i n f a b x i v m e = any-i (λ i. movable a b x i && eqb (value f (flip x i)) v) n i (m .input) (simp tests ((m .differs, m .early), e))
 
 -- The point x has the value v and the other value one move further.
-pub turns-e : (n : ℕ) (f : List ℕ) (a b v x : ℕ) → T (turnsBack n f a b v x) → (value f x ≡ v) × (i : ℕ) × Moves n a b x i × (value f (flip x i) ≡ 1 - v)
+pub turns-e : (n : ℕ) (f : List ℕ) (a b v x : ℕ) → T (dynamicHazard n f a b v x) → (value f x ≡ v) × (i : ℕ) × Moves n a b x i × (value f (flip x i) ≡ 1 - v)
 turns-e n f a b v x t = let r = simp tests at t in let (i, m, e) = further-e n f a b x (1 - v) (r .1) in (r .0, i, m, e)
 
-pub turns-i : (n : ℕ) (f : List ℕ) (a b v x i : ℕ) → value f x ≡ v → Moves n a b x i → value f (flip x i) ≡ 1 - v → T (turnsBack n f a b v x)
+pub turns-i : (n : ℕ) (f : List ℕ) (a b v x i : ℕ) → value f x ≡ v → Moves n a b x i → value f (flip x i) ≡ 1 - v → T (dynamicHazard n f a b v x)
 turns-i n f a b v x i e m h = simp tests (e, further-i n f a b x i (1 - v) m h)
 
 -- f is defined on [a,b].
@@ -57,7 +57,7 @@ Defined n f a b = (x : ℕ) → x < 2 ^ n → T (has (span n a b) x) → value f
 
 -- The rule of a dynamic transition: no point of [a,b] with the value v has the other value one move further.
 abbrev pub Steady : ℕ → List ℕ → ℕ → ℕ → ℕ → Type 0
-Steady n f a b v = (x : ℕ) → x < 2 ^ n → T (has (span n a b) x) → ¬ T (turnsBack n f a b v x)
+Steady n f a b v = (x : ℕ) → x < 2 ^ n → T (has (span n a b) x) → ¬ T (dynamicHazard n f a b v x)
 
 -- The rule for v from a to b is the rule for the other value from b to a.
 steady-swap : (n : ℕ) (f : List ℕ) (a b v : ℕ) → v ≤ 1 → Steady n f a b v → Steady n f b a (1 - v)

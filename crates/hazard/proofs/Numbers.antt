@@ -8,7 +8,7 @@ use lib.Dec.{T, eqb, leb, ltb}
 use lib.ListN.{length}
 use Rattle.hazard.specs.Search.{first, firstPlace, firstOf}
 use Rattle.hazard.specs.Cube.{isProduct}
-use Rattle.hazard.specs.Transition.{value, off, start, end, count, brokenAt, undefinedAt}
+use Rattle.hazard.specs.Transition.{value, off, start, end, count, functionHazardAt, undefinedAt}
 use Rattle.hazard.specs.Sets.{Required, required, privileged}
 use Rattle.hazard.specs.Growth.{Growth, Legal, Blocked, grow}
 use Rattle.hazard.specs.Cover.{productAt}
@@ -78,7 +78,7 @@ module _ (n : ℕ) (f ts : List ℕ) where
       (next (test-number (eqb (length ts) 0 || (eqb (length ts % 2) 1 || ltb 64 (count ts))) 4)
       (next (search-number (λ k. refusal 5 k 0) (λ k. refl) (first (λ k. leb (2 ^ n) (start ts k) || leb (2 ^ n) (end ts k)) 0 (count ts)))
       (next (search-number (λ p. refusal 6 (p .0) (p .1)) (λ p. refl) (firstPlace (λ k. undefinedAt n f (start ts k) (end ts k)) 0 (count ts)))
-      (next (search-number (λ p. refusal 7 (p .0) (p .1)) (λ p. refl) (firstPlace (λ k. brokenAt n f (start ts k) (end ts k)) 0 (count ts)))
+      (next (search-number (λ p. refusal 7 (p .0) (p .1)) (λ p. refl) (firstPlace (λ k. functionHazardAt n f (start ts k) (end ts k)) 0 (count ts)))
       (next (test-number (ltb 2048 (length (required n f ts))) 8) no-more)))))))
 
   -- of the checks before blocking,

@@ -8,7 +8,7 @@ use Rattle.hazard.specs.Search.{firstOf}
 use Rattle.hazard.specs.Cover.{Network}
 use Rattle.hazard.specs.Refusal.{Accepted}
 use Rattle.hazard.specs.Minimal.{minimiserChecks}
-use Rattle.hazard.specs.Piece.{Piece, checked, Exactly, Holds}
+use Rattle.hazard.specs.Piece.{Piece, bufferLength, Exactly, Holds}
 use Rattle.hazard.specs.Pieces.{pieces}
 use Rattle.hazard.proofs.Essential.{essential, essential-minimal, essential-only}
 
@@ -17,7 +17,7 @@ abbrev pub Every : {A : Type 0} → (A → Type 0) → List A → Type 0
 Every P [] = Unit {0}
 Every P (a ∷ l) = P a × Every P l
 
-exactly : (n : ℕ) (f ts : List ℕ) (net : Network) → Accepted n f ts → firstOf (minimiserChecks n f ts (checked n f ts)) ≡ none → T (essential n f ts net) → Exactly n f ts net
+exactly : (n : ℕ) (f ts : List ℕ) (net : Network) → Accepted n f ts → firstOf (minimiserChecks n f ts (bufferLength n f ts)) ≡ none → T (essential n f ts net) → Exactly n f ts net
 exactly n f ts net a e t = record { taken = e; meets = essential-minimal n f ts a net t; only = essential-only n f ts a net t }
 
 -- K1 to K12, in the order of the table.

@@ -11,7 +11,7 @@ use lib.Dec.{T, eqb, leb, ltb, le→leb, lt→ltb}
 use lib.ListN.{length, getD, List·getD-eq-default}
 use Rattle.hazard.specs.Search.{first, firstPlace}
 use Rattle.hazard.specs.Cube.{has, span}
-use Rattle.hazard.specs.Transition.{value, start, end, count, Kind, low, rise, fall, high, kindOf, breaks, brokenAt, undefinedAt}
+use Rattle.hazard.specs.Transition.{value, start, end, count, Kind, low, rise, fall, high, kindOf, functionHazard, functionHazardAt, undefinedAt}
 use Rattle.hazard.specs.Sets.{kindAt, required}
 use Rattle.hazard.specs.Refusal.{refusal, refuseIf, inputsCheck, lengthCheck, listCheck, endsCheck, inputChecks, Accepted}
 use Rattle.hazard.proofs.Test.{tests, T-and, no-or, eqb-of}
@@ -75,7 +75,7 @@ pub record RulesAt (n : ℕ) (f : List ℕ) (a b : ℕ) (k : Kind) : Type 0 wher
   pub end-lt : b < 2 ^ n
   pub ends : EndValues k (value f a) (value f b)
   pub defined : (x : ℕ) → x < 2 ^ n → T (has (span n a b) x) → value f x < 2
-  pub kept : (x : ℕ) → x < 2 ^ n → T (has (span n a b) x) → ¬ T (breaks n f k a b x)
+  pub kept : (x : ℕ) → x < 2 ^ n → T (has (span n a b) x) → ¬ T (functionHazard n f k a b x)
 
 module _ (n : ℕ) (f ts : List ℕ) (accepted : Accepted n f ts) where
   -- Check i, counted from 0, lets it through.
@@ -112,10 +112,10 @@ module _ (n : ℕ) (f ts : List ℕ) (accepted : Accepted n f ts) where
       (passes 5))
       k (omega arith) (omega arith)
 
-  all-kept : (k : ℕ) → k < count ts → brokenAt n f (start ts k) (end ts k) ≡ none
+  all-kept : (k : ℕ) → k < count ts → functionHazardAt n f (start ts k) (end ts k) ≡ none
   all-kept k l =
-      place-none (λ j. brokenAt n f (start ts j) (end ts j)) 0 (count ts) .0
-      (map-eq-none-iff (λ p. refusal 7 (p .0) (p .1)) (firstPlace (λ j. brokenAt n f (start ts j) (end ts j)) 0 (count ts)) .0
+      place-none (λ j. functionHazardAt n f (start ts j) (end ts j)) 0 (count ts) .0
+      (map-eq-none-iff (λ p. refusal 7 (p .0) (p .1)) (firstPlace (λ j. functionHazardAt n f (start ts j) (end ts j)) 0 (count ts)) .0
       (passes 6))
       k (omega arith) (omega arith)
 
@@ -132,7 +132,7 @@ module _ (n : ℕ) (f ts : List ℕ) (accepted : Accepted n f ts) where
         end-lt = points k l .1;
         ends = end-values (value f A) (value f B) (two A (points k l .0) (→has (span-left n A B))) (two B (points k l .1) (→has (span-right n A B)));
         defined = two;
-        kept = λ x m t u. first-none (λ y. has (span n A B) y && breaks n f (kindAt f ts k) A B y) 0 (2 ^ n) (all-kept k l) x (omega arith) (omega arith) (simp T-and (t, u));
+        kept = λ x m t u. first-none (λ y. has (span n A B) y && functionHazard n f (kindAt f ts k) A B y) 0 (2 ^ n) (all-kept k l) x (omega arith) (omega arith) (simp T-and (t, u));
       }
     where
       A : ℕ

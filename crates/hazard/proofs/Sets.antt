@@ -11,7 +11,7 @@ use native.Mathlib.Decide.{ℕ-discrete}
 use lib.Dec.{T}
 use Rattle.hazard.specs.Cube.{span}
 use Rattle.hazard.specs.Transition.{start, end, count, Kind, low, rise, fall, high}
-use Rattle.hazard.specs.Sets.{Required, Privileged, last, labels, dynamic, kindAt, startAt, requiredOf, requiredFrom, required, privilegedFrom, privileged}
+use Rattle.hazard.specs.Sets.{Required, Privileged, maximalLabel, labels, dynamic, kindAt, startAt, requiredOf, requiredFrom, required, privilegedFrom, privileged}
 use Rattle.hazard.proofs.Test.{so, so-not}
 use Rattle.hazard.proofs.Search.{those-order}
 use Rattle.hazard.proofs.Cube.{Digits, span-digits}
@@ -108,8 +108,8 @@ before-prop r s = ×-prop le-prop (→-prop le-prop)
 
 labels-order : (n : ℕ) (f : List ℕ) (k : Kind) (a b : ℕ) → Pairwise (λ x y. x < y) (labels n f k a b)
 labels-order n f low a b = Pairwise·nil
-labels-order n f rise a b = those-order (last n f b a) 0 (2 ^ n)
-labels-order n f fall a b = those-order (last n f a b) 0 (2 ^ n)
+labels-order n f rise a b = those-order (maximalLabel n f b a) 0 (2 ^ n)
+labels-order n f fall a b = those-order (maximalLabel n f a b) 0 (2 ^ n)
 labels-order n f high a b = pairwise-singleton (λ x y. x < y) b
 
 module _ (n : ℕ) (f ts : List ℕ) where

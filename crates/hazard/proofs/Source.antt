@@ -11,8 +11,8 @@ use lib.Dec.{T, eqb, eqb→eq}
 use lib.ListN.{length, List·getD-eq-default}
 use Rattle.hazard.specs.Search.{those}
 use Rattle.hazard.specs.Cube.{Cube, bit, flip, has, span, meets, inside}
-use Rattle.hazard.specs.Transition.{value, off, start, end, count, Kind, low, rise, fall, high, kindOf, kind, further, breaks, brokenAt}
-use Rattle.hazard.specs.Sets.{Required, Privileged, last, labels, startPoint, dynamic, kindAt, required, privileged}
+use Rattle.hazard.specs.Transition.{value, off, start, end, count, Kind, low, rise, fall, high, kindOf, kind, further, functionHazard, functionHazardAt}
+use Rattle.hazard.specs.Sets.{Required, Privileged, maximalLabel, labels, startPoint, dynamic, kindAt, required, privileged}
 use Rattle.hazard.specs.Cover.{Network, productAt, WellFormed, HazardFreeCover}
 use Rattle.hazard.specs.Refusal.{Accepted}
 use Rattle.hazard.specs.Source.{StaticHazard, DynamicHazard, OneOn, MaximalOn, SourceLabel, SourceRequired, stays, falls, rises, SourcePrivileged, SourceOff, Trivial, SourceCover}
@@ -49,8 +49,8 @@ module _ (n : ℕ) (f : List ℕ) (s e : ℕ) (defined : Defined n f s e) (stead
           omega arith
 
   -- A 1 with no 1 one move further is the end of a maximal subcube, and the other way round.
-  last-maximal : (x : ℕ) → x < 2 ^ n → T (last n f s e x) → MaximalOn n f s e x
-  last-maximal x l t =
+  label-maximal : (x : ℕ) → x < 2 ^ n → T (maximalLabel n f s e x) → MaximalOn n f s e x
+  label-maximal x l t =
       record {
         oneOn = one-on x l (r .0) (r .1 .0);
         maximal = λ y o h. ends-i n s y (span-digits n s x) (→has (span-left n s x)) (in-i n s x y (λ i b c. elim (ℕ-discrete (bit s i) (bit y i)) [
@@ -69,8 +69,8 @@ module _ (n : ℕ) (f : List ℕ) (s e : ℕ) (defined : Defined n f s e) (stead
           further-i n f s e x i 1 m (o .ones (flip x i) (flip-lt n x i l b)
           (in-i n s y (flip x i) (λ j q g. elim (ℕ-discrete i j) [ yes k ↦ absurd (d (rw k g)) | no k ↦ h j q g ∙ sym (flip-other x i j k) ])))
 
-  maximal-last : (x : ℕ) → MaximalOn n f s e x → T (last n f s e x)
-  maximal-last x h = simp tests (t, (h .oneOn .ones x (h .oneOn .point) (→has (span-right n s x)), λ u. stuck (further-e n f s e x 1 u)))
+  maximal-label : (x : ℕ) → MaximalOn n f s e x → T (maximalLabel n f s e x)
+  maximal-label x h = simp tests (t, (h .oneOn .ones x (h .oneOn .point) (→has (span-right n s x)), λ u. stuck (further-e n f s e x 1 u)))
     where
       t : T (has (span n s e) x)
       t = ends-e n s x (span n s e) (h .oneOn .within) .1
@@ -85,10 +85,10 @@ module _ (n : ℕ) (f : List ℕ) (s e : ℕ) (defined : Defined n f s e) (stead
           omega (arith, flip-same x i, m .early)
 
   -- Lemma 2.8.
-  pub fall-labels : (x : ℕ) → List·Memᴰ x (those (last n f s e) 0 (2 ^ n)) ↔ MaximalOn n f s e x
+  pub fall-labels : (x : ℕ) → List·Memᴰ x (those (maximalLabel n f s e) 0 (2 ^ n)) ↔ MaximalOn n f s e x
   fall-labels x = (
-    λ m. let r = those-e (last n f s e) 0 (2 ^ n) m in last-maximal x (omega (arith, r .1)) (r .2),
-    λ h. those-i (last n f s e) 0 (2 ^ n) x (omega arith) (omega (arith, h .oneOn .point)) (maximal-last x h),
+    λ m. let r = those-e (maximalLabel n f s e) 0 (2 ^ n) m in label-maximal x (omega (arith, r .1)) (r .2),
+    λ h. those-i (maximalLabel n f s e) 0 (2 ^ n) x (omega arith) (omega (arith, h .oneOn .point)) (maximal-label x h),
   )
 
 -- Lemmas 2.7 to 2.9: the labels are the source's, all of them and no others.
@@ -192,7 +192,7 @@ FunctionHazardFree n f a b = (¬ StaticHazard n f a b) × (¬ DynamicHazard n f 
 
 -- The rule of the kind k holds on [a,b].
 abbrev Kept : ℕ → List ℕ → ℕ → ℕ → Kind → Type 0
-Kept n f a b k = (x : ℕ) → x < 2 ^ n → T (has (span n a b) x) → ¬ T (breaks n f k a b x)
+Kept n f a b k = (x : ℕ) → x < 2 ^ n → T (has (span n a b) x) → ¬ T (functionHazard n f k a b x)
 
 module _ (n : ℕ) (f : List ℕ) (a b v : ℕ) (small : v ≤ 1) (defined : Defined n f a b) (ends : value f b ≡ v) where
   -- Both ends have the value v: the other value is a static function hazard.
@@ -233,21 +233,21 @@ kept-free n f a b defined fall e = dynamic-free n f a b 0 (omega arith) defined 
 kept-free n f a b defined high e = static-free n f a b 1 (omega arith) defined (e .1) (e .0)
 
 -- Definitions 2.4 and 2.5: the rule of the kind holds exactly where f has no function hazard.
-pub rule-source : (n : ℕ) (f : List ℕ) (a b : ℕ) → a < 2 ^ n → b < 2 ^ n → Defined n f a b → (brokenAt n f a b ≡ none) ↔ ((¬ StaticHazard n f a b) × (¬ DynamicHazard n f a b))
+pub rule-source : (n : ℕ) (f : List ℕ) (a b : ℕ) → a < 2 ^ n → b < 2 ^ n → Defined n f a b → (functionHazardAt n f a b ≡ none) ↔ ((¬ StaticHazard n f a b) × (¬ DynamicHazard n f a b))
 rule-source n f a b l m defined = (
   λ e. r .0 (λ x h t u. first-none test 0 (2 ^ n) e x (omega arith) (omega arith) (simp T-and (t, u))),
   λ h. none-first test 0 (2 ^ n) (λ x p q t. let u = simp T-and at t in r .1 h x (omega arith) (u .0) (u .1)),
 )
   where
     test : ℕ → Bool
-    test x = has (span n a b) x && breaks n f (kind f a b) a b x
+    test x = has (span n a b) x && functionHazard n f (kind f a b) a b x
 
     r : Kept n f a b (kind f a b) ↔ FunctionHazardFree n f a b
     r = kept-free n f a b defined (kind f a b) (end-values (value f a) (value f b) (defined a l (→has (span-left n a b))) (defined b m (→has (span-right n a b))))
 
 -- Theorem 2.10: our conditions are the source's, though (c) there leaves out the trivial privileged cubes: given (a), that changes nothing.
-pub trivial-source : (n : ℕ) (f ts : List ℕ) (net : Network) → Accepted n f ts → WellFormed n net → SourceCover n f ts net ↔ HazardFreeCover n f ts net
-trivial-source n f ts net accepted formed = (
+pub cover-source : (n : ℕ) (f ts : List ℕ) (net : Network) → Accepted n f ts → WellFormed n net → SourceCover n f ts net ↔ HazardFreeCover n f ts net
+cover-source n f ts net accepted formed = (
   λ h. record {
     a = λ p m x l o. h .a p m x (zero x .0 o);
     b = λ r m. let (l, s) = required-source n f ts accepted r .0 m in

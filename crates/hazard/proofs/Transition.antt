@@ -11,7 +11,7 @@ use lib.ListN.{length}
 use Rattle.hazard.specs.Search.{those}
 use Rattle.hazard.specs.Cube.{bit, has, span}
 use Rattle.hazard.specs.Transition.{value, Kind, low, rise, fall, high}
-use Rattle.hazard.specs.Sets.{last, labels, startPoint, dynamic}
+use Rattle.hazard.specs.Sets.{maximalLabel, labels, startPoint, dynamic}
 use Rattle.hazard.specs.Cover.{Network, productAt, gives}
 use Rattle.hazard.specs.Run.{Wire, Constant, Turns, Allowed}
 use Rattle.hazard.proofs.Test.{T-and, is, isnt, so, so-not, or-l, known, eqb-of, eqb-self, cond-yes, cond-no}
@@ -169,20 +169,20 @@ module _ (n : ℕ) (f : List ℕ) (net : Network) (a b : ℕ) where
 
   -- A single product contains S and the label, for each label, if the network gives 1 at the 1s and every product that has a point of [A,B] contains S.
   labelled : (s e : ℕ) → ((x : ℕ) → T (has (span n s e) x) → T (has (span n a b) x)) → Ones → Anchored n a b net s
-      → (x : ℕ) → List·Memᴰ x (those (last n f s e) 0 (2 ^ n)) → Joint net s x
+      → (x : ℕ) → List·Memᴰ x (those (maximalLabel n f s e) 0 (2 ^ n)) → Joint net s x
   labelled s e to one anchored x m =
-      let t = those-e (last n f s e) 0 (2 ^ n) m in
+      let t = those-e (maximalLabel n f s e) 0 (2 ^ n) m in
       let u = label-one n f s e x (t .2) in
       let g = gives-e net x (so (one x (omega (arith, t .1)) (to x (u .0)) (u .1))) in
       (g .0, g .1, anchored (g .0) (g .1) x (g .2) (to x (u .0)), g .2)
 
   module _ (good : Products n net) (zeros : (x : ℕ) → x < 2 ^ n → value f x ≡ 0 → gives net x ≡ false) where
     -- The network gives 1 at the 1s of [S,E], if a single product contains S and the label, for each label.
-    reach : (s e : ℕ) → ((x : ℕ) → List·Memᴰ x (those (last n f s e) 0 (2 ^ n)) → Joint net s x)
+    reach : (s e : ℕ) → ((x : ℕ) → List·Memᴰ x (those (maximalLabel n f s e) 0 (2 ^ n)) → Joint net s x)
         → (x : ℕ) → x < 2 ^ n → In n s e x → value f x ≡ 1 → gives net x ≡ true
     reach s e c x h r v =
         let y = label-of n f s e x h r v in
-        let j = c (y .0) (those-i (last n f s e) 0 (2 ^ n) (y .0) (omega arith) (omega (arith, y .1)) (y .2)) in
+        let j = c (y .0) (those-i (maximalLabel n f s e) 0 (2 ^ n) (y .0) (omega arith) (omega (arith, y .1)) (y .2)) in
         is (gives-i net x (j .0) (j .1) (between n s (y .0) x (good (j .0) (j .1)) (j .2) (j .3) (y .3)))
 
     pub hazard-free-at : (k : Kind) → RulesAt n f a b k → CoverAt k → HazardFreeAt k

@@ -16,7 +16,7 @@ use Rattle.hazard.specs.Implicant.{illegal, lowestZero}
 use Rattle.hazard.specs.Cover.{Network, productAt, WellFormed, covered, HazardFreeCover}
 use Rattle.hazard.specs.HazardFree.{HazardFree}
 use Rattle.hazard.specs.Refusal.{Refusal, inputChecks, Accepted}
-use Rattle.hazard.specs.Verdict.{cut, products, productsCheck, digitsCheck, verifierChecks, Verdict, refused, passed, holdsZero, intersects, uncovered, faultA, faultC, faultB, firstFault, fault, verdict, Verified, mark}
+use Rattle.hazard.specs.Verdict.{cut, products, productsCheck, digitsCheck, verifierChecks, Verdict, refused, passed, holdsZero, intersects, uncovered, faultA, faultC, faultB, firstFault, fault, verdict, Verified, fieldsOf}
 use Rattle.hazard.proofs.Test.{T-and, sure}
 use Rattle.hazard.proofs.Search.{none-some, first-none, none-first, find-none, place-none, firstOf-none, firstOf-append, First, lowest, first-is, Find, hit, find-is, Earlier, Place, placed, place-is}
 use Rattle.hazard.proofs.Network.{entry-at, at-places}
@@ -193,7 +193,7 @@ module _ (n : ℕ) (f ts bytes : List ℕ) where
   verified {v} e =
       record {
         is = e;
-        marked = ap mark e;
+        fields = ap fieldsOf e;
         covers = λ h. let s = judged (firstOf (verifierChecks n f ts bytes)) (fault n f ts (products n bytes)) in
             let c = fault-passed n f ts (products n bytes) in (λ p. c .0 (s .0 (sym e ∙ p) .1), λ k. e ∙ s .1 (h, c .1 k));
         hazardFree = λ h. let c = checked-passed h in (λ p. c .0 (sym e ∙ p), λ k. e ∙ c .1 k);

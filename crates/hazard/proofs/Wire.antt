@@ -10,7 +10,7 @@ use lib.Dec.{T, eqb, T-not, not-T}
 use lib.ListN.{length}
 use Rattle.hazard.specs.Cube.{Cube, bit}
 use Rattle.hazard.specs.Cover.{Network, productAt}
-use Rattle.hazard.specs.Run.{Wire, sameWire, seen, times, wiresOf, wires}
+use Rattle.hazard.specs.Run.{Wire, sameWire, seen, times, wiresOf, wires, Run}
 use Rattle.hazard.proofs.Test.{tests, so, so-not, or-l, or-r, or-e, known, cond-yes, cond-no}
 use Rattle.hazard.proofs.Point.{dig}
 
@@ -214,3 +214,14 @@ module _ (a b : ℕ) where
     wires-once 0 net w,
     seen-times (wires a b 0 net) w (rw (zero-add (w .product)) at (seen-wires 0 net (w .product) (w .input) (h .place) (h .literal) (h .moving))),
   )
+
+  -- A run moves the wire of each literal whose input moves once, and no other wire.
+  pub run-wires : (net : Network) (r : List Wire) → Run a b net r → (w : Wire) → (Literal net w → times r w ≡ 1) × (¬ Literal net w → times r w ≡ 0)
+  run-wires net r h w = (λ l. h w ∙ times-literal net w l, λ l. h w ∙ times-zero (wires a b 0 net) w (λ t. l (literal t)))
+    where
+      literal : T (seen (wires a b 0 net) w) → Literal net w
+      literal t =
+          let (j, l, m) = wires-e 0 net w t in
+          let k : j ≡ w .product = omega (arith, m .mine) in
+          let i : m .place ≡ w .input = omega (arith, m .here) in
+          record { place = omega (arith, l, k); literal = λ z. m .literal (rw (k, i) z); moving = m .moving }

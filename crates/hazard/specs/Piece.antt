@@ -33,20 +33,20 @@ pub record Piece : Type 0 where
   pub item : Item
 
 module _ (n : ℕ) (f ts : List ℕ) where
-  -- The minimiser's checks, with a buffer that is just long enough.
-  abbrev pub checked : ℕ
-  checked = n * length (required n f ts)
+  -- The length of a buffer that is just long enough for the minimiser.
+  abbrev pub bufferLength : ℕ
+  bufferLength = n * length (required n f ts)
 
   -- Exactly these products: they are a minimal network, and every minimal network has them.
   pub record Exactly (net : Network) : Type 0 where
-    pub taken : firstOf (minimiserChecks n f ts checked) ≡ none
+    pub taken : firstOf (minimiserChecks n f ts bufferLength) ≡ none
     pub meets : Minimal n f ts net
     pub only : (other : Network) → Minimal n f ts other → Perm other net
 
   -- What an item says of the problem.
   abbrev pub Says : Item → Type 0
   Says (minimised net) = Exactly net
-  Says (declined r) = firstOf (minimiserChecks n f ts checked) ≡ some r
+  Says (declined r) = firstOf (minimiserChecks n f ts bufferLength) ≡ some r
   Says (verified bytes v) = verdict n f ts bytes ≡ v
   Says (moved bytes k ws bs) = Run (start ts k) (end ts k) (products n bytes) ws × (outputs (start ts k) (end ts k) (products n bytes) [] ws ≡ bs)
 

@@ -7,7 +7,7 @@ use Prim.Native.Nat.{ℕ, _%_, _^_}
 use lib.Dec.{eqb, leb, ltb}
 use lib.ListN.{length}
 use Rattle.hazard.specs.Search.{first, firstPlace, firstOf}
-use Rattle.hazard.specs.Transition.{value, start, end, count, brokenAt, undefinedAt}
+use Rattle.hazard.specs.Transition.{value, start, end, count, functionHazardAt, undefinedAt}
 use Rattle.hazard.specs.Sets.{required}
 
 -- A refusal: its number, and all that any refusal names. What a refusal does not name is 0.
@@ -55,7 +55,7 @@ definedCheck n f ts = Option·map (λ p. refusal 6 (p .0) (p .1)) (firstPlace (�
 
 -- 7: the rule of the kind is broken; the first such transition, the lowest point.
 abbrev pub rulesCheck : ℕ → List ℕ → List ℕ → Option Refusal
-rulesCheck n f ts = Option·map (λ p. refusal 7 (p .0) (p .1)) (firstPlace (λ k. brokenAt n f (start ts k) (end ts k)) 0 (count ts))
+rulesCheck n f ts = Option·map (λ p. refusal 7 (p .0) (p .1)) (firstPlace (λ k. functionHazardAt n f (start ts k) (end ts k)) 0 (count ts))
 
 -- 8: more than 2,048 required cubes.
 abbrev pub manyCheck : ℕ → List ℕ → List ℕ → Option Refusal

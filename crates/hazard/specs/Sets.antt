@@ -19,15 +19,15 @@ pub record Privileged : Type 0 where
   pub cube : Cube
   pub start : ℕ
 
--- On the way from s to e, x is a 1 with no 1 one move further.
-abbrev pub last : ℕ → List ℕ → ℕ → ℕ → ℕ → Bool
-last n f s e x = has (span n s e) x && (eqb (value f x) 1 && not (further n f s e x 1))
+-- On the way from s to e, x is a 1 with no 1 one move further: [s,x] is a maximal subcube on which f is 1 (Lemma 2.8).
+abbrev pub maximalLabel : ℕ → List ℕ → ℕ → ℕ → ℕ → Bool
+maximalLabel n f s e x = has (span n s e) x && (eqb (value f x) 1 && not (further n f s e x 1))
 
 -- The labels of the required cubes of a transition from a to b. A rise is a fall from b to a.
 abbrev pub labels : ℕ → List ℕ → Kind → ℕ → ℕ → List ℕ
 labels n f low a b = []
-labels n f rise a b = those (last n f b a) 0 (2 ^ n)
-labels n f fall a b = those (last n f a b) 0 (2 ^ n)
+labels n f rise a b = those (maximalLabel n f b a) 0 (2 ^ n)
+labels n f fall a b = those (maximalLabel n f a b) 0 (2 ^ n)
 labels n f high a b = b ∷ []
 
 -- The end of the transition that lies in all its required cubes; of a dynamic one it is the start point of the privileged cube too.

@@ -48,20 +48,20 @@ movable a b x i = not (eqb (bit a i) (bit b i)) && eqb (bit x i) (bit a i)
 abbrev pub further : ℕ → List ℕ → ℕ → ℕ → ℕ → ℕ → Bool
 further n f a b x v = found (first (λ i. movable a b x i && eqb (value f (flip x i)) v) 0 n)
 
--- The point x has the value v, and a move further gives the other value.
-abbrev pub turnsBack : ℕ → List ℕ → ℕ → ℕ → ℕ → ℕ → Bool
-turnsBack n f a b v x = eqb (value f x) v && further n f a b x (1 - v)
+-- x shows a dynamic function hazard (Definition 2.5): it has the value v of the transition's end, and a move further gives the other value.
+abbrev pub dynamicHazard : ℕ → List ℕ → ℕ → ℕ → ℕ → ℕ → Bool
+dynamicHazard n f a b v x = eqb (value f x) v && further n f a b x (1 - v)
 
--- The rule of the kind is broken at x: the wrong value (static), or the point before the wrong move (dynamic).
-abbrev pub breaks : ℕ → List ℕ → Kind → ℕ → ℕ → ℕ → Bool
-breaks n f low a b x = eqb (value f x) 1
-breaks n f rise a b x = turnsBack n f a b 1 x
-breaks n f fall a b x = turnsBack n f a b 0 x
-breaks n f high a b x = eqb (value f x) 0
+-- x shows a function hazard, so that the kind's rule is broken: the wrong value (static), or the point before the wrong move (dynamic).
+abbrev pub functionHazard : ℕ → List ℕ → Kind → ℕ → ℕ → ℕ → Bool
+functionHazard n f low a b x = eqb (value f x) 1
+functionHazard n f rise a b x = dynamicHazard n f a b 1 x
+functionHazard n f fall a b x = dynamicHazard n f a b 0 x
+functionHazard n f high a b x = eqb (value f x) 0
 
--- The lowest point of [A,B] where the rule of its kind is broken: no such point, if f is free of function hazards there.
-abbrev pub brokenAt : ℕ → List ℕ → ℕ → ℕ → Option ℕ
-brokenAt n f a b = first (λ x. has (span n a b) x && breaks n f (kind f a b) a b x) 0 (2 ^ n)
+-- The lowest point of [A,B] that shows a function hazard: no such point, if f is free of them there.
+abbrev pub functionHazardAt : ℕ → List ℕ → ℕ → ℕ → Option ℕ
+functionHazardAt n f a b = first (λ x. has (span n a b) x && functionHazard n f (kind f a b) a b x) 0 (2 ^ n)
 
 -- The lowest point of [A,B] that is don't care.
 abbrev pub undefinedAt : ℕ → List ℕ → ℕ → ℕ → Option ℕ

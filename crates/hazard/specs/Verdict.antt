@@ -79,26 +79,27 @@ abbrev pub verdict : ℕ → List ℕ → List ℕ → List ℕ → Verdict
 verdict n f ts bytes = elim (firstOf (verifierChecks n f ts bytes)) [ some r ↦ refused r | none ↦ fault n f ts (products n bytes) ]
 
 -- The verdict's number and the fields that go back with it. What a verdict does not name is 0.
-pub record Mark : Type 0 where
+pub record Fields : Type 0 where
   pub number : ℕ
   pub refusal : ℕ
   pub product : ℕ
   pub transition : ℕ
   pub point : ℕ
 
-abbrev pub mark : Verdict → Mark
-mark (refused r) = record { number = 0; refusal = r .number; product = r .product; transition = r .transition; point = r .point }
-mark passed = record { number = 1; refusal = 0; product = 0; transition = 0; point = 0 }
-mark (holdsZero j x) = record { number = 2; refusal = 0; product = j; transition = 0; point = x }
-mark (intersects j k) = record { number = 3; refusal = 0; product = j; transition = k; point = 0 }
-mark (uncovered k x) = record { number = 4; refusal = 0; product = 0; transition = k; point = x }
+-- Document 01's number and values for each verdict.
+abbrev pub fieldsOf : Verdict → Fields
+fieldsOf (refused r) = record { number = 0; refusal = r .number; product = r .product; transition = r .transition; point = r .point }
+fieldsOf passed = record { number = 1; refusal = 0; product = 0; transition = 0; point = 0 }
+fieldsOf (holdsZero j x) = record { number = 2; refusal = 0; product = j; transition = 0; point = x }
+fieldsOf (intersects j k) = record { number = 3; refusal = 0; product = j; transition = k; point = 0 }
+fieldsOf (uncovered k x) = record { number = 4; refusal = 0; product = 0; transition = k; point = x }
 
 -- What the verifier promises of its verdict.
 pub record Verified (n : ℕ) (f ts bytes : List ℕ) (v : Verdict) : Type 0 where
   -- It is the definition's, for refused input too.
   pub is : v ≡ verdict n f ts bytes
   -- So are its number and fields.
-  pub marked : mark v ≡ mark (verdict n f ts bytes)
+  pub fields : fieldsOf v ≡ fieldsOf (verdict n f ts bytes)
   -- Where nothing is refused: passed exactly if conditions (a), (b) and (c) hold,
   pub covers : firstOf (verifierChecks n f ts bytes) ≡ none → (v ≡ passed) ↔ HazardFreeCover n f ts (products n bytes)
   -- and exactly if the network is hazard-free.

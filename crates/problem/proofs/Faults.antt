@@ -8,7 +8,7 @@ use lib.Dec.{eqb}
 use lib.ListN.{length}
 use Rattle.hazard.specs.Search.{first}
 use Rattle.hazard.specs.Cube.{has, span}
-use Rattle.hazard.specs.Transition.{Kind, low, rise, fall, high, kind, value, breaks, brokenAt, undefinedAt}
+use Rattle.hazard.specs.Transition.{Kind, low, rise, fall, high, kind, value, functionHazard, functionHazardAt, undefinedAt}
 use Rattle.cube.specs.PointSet.{inSet}
 use Rattle.points.specs.PointWord.{PointsOf}
 use Rattle.points.specs.Plane.{Plane}
@@ -32,16 +32,16 @@ found-same n a b s t g = first-same (λ x. has (span n a b) x && s x) (λ x. has
 
 -- By the planes of a table, the rule that is broken is the table's.
 module _ (n : ℕ) {f : List ℕ} (e : length f ≡ 2 ^ n) (a b : ℕ) where
-  rule-agrees : {zeros ones : List ℕ} (k : Kind) → Plane f 0 zeros → Plane f 1 ones → Agrees (breaksIn n (inSet zeros) (inSet ones) k a b) (breaks n f k a b) (2 ^ n)
+  rule-agrees : {zeros ones : List ℕ} (k : Kind) → Plane f 0 zeros → Plane f 1 ones → Agrees (breaksIn n (inSet zeros) (inSet ones) k a b) (functionHazard n f k a b) (2 ^ n)
   rule-agrees low p q = plane-agrees n e q
   rule-agrees rise p q = turns-agree n e a b q p
   rule-agrees fall p q = turns-agree n e a b p q
   rule-agrees high p q = plane-agrees n e p
 
-  pub broken-is : {zeros ones : List ℕ} (k : Kind) → Plane f 0 zeros → Plane f 1 ones → k ≡ kind f a b → brokenIn n (inSet zeros) (inSet ones) k a b ≡ brokenAt n f a b
+  pub broken-is : {zeros ones : List ℕ} (k : Kind) → Plane f 0 zeros → Plane f 1 ones → k ≡ kind f a b → brokenIn n (inSet zeros) (inSet ones) k a b ≡ functionHazardAt n f a b
   broken-is {zeros} {ones} k p q h =
-      found-same n a b (breaksIn n (inSet zeros) (inSet ones) k a b) (breaks n f k a b) (rule-agrees k p q)
-      ∙ ap (λ (j : Kind). first (λ x. has (span n a b) x && breaks n f j a b x) 0 (2 ^ n)) h
+      found-same n a b (breaksIn n (inSet zeros) (inSet ones) k a b) (functionHazard n f k a b) (rule-agrees k p q)
+      ∙ ap (λ (j : Kind). first (λ x. has (span n a b) x && functionHazard n f j a b x) 0 (2 ^ n)) h
 
   pub undefined-is : {twos : List ℕ} → Plane f 2 twos → brokenIn n (inSet twos) (inSet twos) low a b ≡ undefinedAt n f a b
   undefined-is {twos} p = found-same n a b (inSet twos) (λ x. eqb (value f x) 2) (plane-agrees n e p)

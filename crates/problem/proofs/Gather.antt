@@ -16,7 +16,7 @@ use lib.Seq.{take-suc-set, getD-set-same, getD-set-other}
 use Rattle.hazard.specs.Search.{those}
 use Rattle.hazard.specs.Cube.{flip}
 use Rattle.hazard.specs.Transition.{Kind, low, rise, fall, high, kind, start, end, count}
-use Rattle.hazard.specs.Sets.{Privileged, labels, last, dynamic, startPoint, kindAt, requiredOf, requiredFrom, required, privilegedFrom}
+use Rattle.hazard.specs.Sets.{Privileged, labels, maximalLabel, dynamic, startPoint, kindAt, requiredOf, requiredFrom, required, privilegedFrom}
 use Rattle.cube.specs.declared.mask.Cube.{Cube}
 use Rattle.cube.specs.Mask.{cubeOf}
 use Rattle.cube.specs.Next.{Next}
@@ -41,8 +41,8 @@ those-few test from (suc size) = go (test from) (those-few test (suc from) size)
 
 pub labels-few : (n : ℕ) (f : List ℕ) (k : Kind) (a b : ℕ) → length (labels n f k a b) ≤ 2 ^ n
 labels-few n f low a b = omega arith
-labels-few n f rise a b = those-few (last n f b a) 0 (2 ^ n)
-labels-few n f fall a b = those-few (last n f a b) 0 (2 ^ n)
+labels-few n f rise a b = those-few (maximalLabel n f b a) 0 (2 ^ n)
+labels-few n f fall a b = those-few (maximalLabel n f a b) 0 (2 ^ n)
 labels-few n f high a b = pow-pos n
 
 -- A loop over the words of a cube that counts the points that pass.

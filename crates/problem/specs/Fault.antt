@@ -6,13 +6,13 @@ use Prim.Native.Nat.{ℕ, _^_}
 use lib.Dec.{eqb}
 use Rattle.hazard.specs.Search.{first, firstPlace}
 use Rattle.hazard.specs.Cube.{has, span}
-use Rattle.hazard.specs.Transition.{start, end, count, Kind, low, rise, fall, high, undefinedAt, brokenAt}
+use Rattle.hazard.specs.Transition.{start, end, count, Kind, low, rise, fall, high, undefinedAt, functionHazardAt}
 use Rattle.hazard.specs.Refusal.{Refusal, refusal}
 use Rattle.points.specs.Turn.{turns}
 
 -- The lowest don't care of [A,B] for check 6, the lowest point that breaks the rule of the kind for check 7.
 abbrev pub faultAt : ℕ → ℕ → List ℕ → ℕ → ℕ → Option ℕ
-faultAt number n f a b = cond (eqb number 6) (undefinedAt n f a b) (brokenAt n f a b)
+faultAt number n f a b = cond (eqb number 6) (undefinedAt n f a b) (functionHazardAt n f a b)
 
 -- The first transition with one.
 abbrev pub pointsCheck : ℕ → ℕ → List ℕ → List ℕ → Option Refusal

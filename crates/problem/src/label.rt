@@ -3,7 +3,7 @@ ghost use mathlib.Core.Path.{_≡_};
 ghost use Prim.Native.Nat.{_≤_, _<_, _^_};
 ghost use lib.ListN.{length};
 ghost use Rattle.hazard.specs.Search.{those};
-ghost use Rattle.hazard.specs.Sets.{last, labels};
+ghost use Rattle.hazard.specs.Sets.{maximalLabel, labels};
 ghost use Rattle.points.specs.Plane.{Plane};
 ghost use Rattle.problem.specs.Codes.{kindIs};
 use crate::kind::Kind;
@@ -17,7 +17,7 @@ use points::turn::last_points;
 fn count_between(n: usize, table: &[u8], ones: &[u64], s: u16, e: u16) -> usize
     requires { ⌜ (n ≤ 10) × (length (now table) ≡ 2 ^ n) × (s < 2 ^ n) × (e < 2 ^ n) ⌝ }
     requires { ⌜ Plane (now table) 1 (now ones) ⌝ }
-    ensures { λ r. ⌜ r ≡ length (those (last n (now (table .entry)) s e) 0 (2 ^ n)) ⌝ }
+    ensures { λ r. ⌜ r ≡ length (those (maximalLabel n (now (table .entry)) s e) 0 (2 ^ n)) ⌝ }
 {
     let c = span_of(n, s, e);
     let m = low_mask(c);

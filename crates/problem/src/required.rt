@@ -4,7 +4,7 @@ ghost use mathlib.Core.List.{[], _∷_, map};
 ghost use Prim.Native.Nat.{_+_, _≤_, _<_, _^_};
 ghost use lib.ListN.{length};
 ghost use Rattle.hazard.specs.Search.{those};
-ghost use Rattle.hazard.specs.Sets.{last, required};
+ghost use Rattle.hazard.specs.Sets.{maximalLabel, required};
 ghost use Rattle.cube.specs.Entry.{requiredIn};
 ghost use Rattle.points.specs.PointWord.{pointsIn, Below};
 ghost use Rattle.points.specs.Plane.{Plane};
@@ -77,8 +77,8 @@ fn labels_into(
     at: usize,
 ) -> usize
     requires { ⌜ (n ≤ 10) × (length (now table) ≡ 2 ^ n) × (s < 2 ^ n) × (e < 2 ^ n) × Plane (now table) 1 (now ones) ⌝ }
-    requires { ⌜ at + length (those (last n (now table) s e) 0 (2 ^ n)) ≤ length (now out) ⌝ }
-    ensures { λ r. ⌜ Stored n (requiredIn n) (now (out .entry)) (now (out .exit)) at r (map (requiredTo n t s) (those (last n (now (table .entry)) s e) 0 (2 ^ n))) ⌝ }
+    requires { ⌜ at + length (those (maximalLabel n (now table) s e) 0 (2 ^ n)) ≤ length (now out) ⌝ }
+    ensures { λ r. ⌜ Stored n (requiredIn n) (now (out .entry)) (now (out .exit)) at r (map (requiredTo n t s) (those (maximalLabel n (now (table .entry)) s e) 0 (2 ^ n))) ⌝ }
 {
     let c = span_of(n, s, e);
     let m = low_mask(c);

@@ -11,7 +11,7 @@ use lib.ListN.{length}
 use Rattle.hazard.specs.Search.{firstOf}
 use Rattle.hazard.specs.Refusal.{Refusal, inputChecks, Accepted}
 use Rattle.hazard.specs.Minimal.{roomCheck, blocking, minimiserChecks, Minimised, written, declined, Promise}
-use Rattle.hazard.specs.Verdict.{Mark, mark, Verdict, Verified}
+use Rattle.hazard.specs.Verdict.{Fields, fieldsOf, Verdict, Verified}
 use Rattle.hazard.proofs.Test.{isnt}
 use Rattle.hazard.proofs.Search.{firstOf-append}
 use Rattle.hazard.proofs.Bounds.{minimiser-bounds, minimal-few, verdict-bounds}
@@ -69,11 +69,11 @@ written-exact k =
     rw (l, h)
 
 -- A verdict's fields in their places.
-abbrev pub packedMark : Mark → ℕ
-packedMark m = m .number + 256 * (m .refusal + 256 * (m .product + 65536 * (m .transition + 65536 * m .point)))
+abbrev pub packedFields : Fields → ℕ
+packedFields m = m .number + 256 * (m .refusal + 256 * (m .product + 65536 * (m .transition + 65536 * m .point)))
 
-pub mark-exact : (m : Mark) → m .number < 256 → m .refusal < 256 → m .product < 65536 → m .transition < 65536 → unpackedVerdict (packedMark m) ≡ m
-mark-exact m hn hr hp ht =
+pub fields-exact : (m : Fields) → m .number < 256 → m .refusal < 256 → m .product < 65536 → m .transition < 65536 → unpackedVerdict (packedFields m) ≡ m
+fields-exact m hn hr hp ht =
     same (low 256 (m .number) t hn) (rw a (low 256 (m .refusal) u hr)) (rw (a, b) (low 65536 (m .product) v hp))
     (rw (a, b, c) (low 65536 (m .transition) (m .point) ht)) (rw (a, b, c) (high 65536 (m .transition) (m .point) ht))
   where
@@ -86,7 +86,7 @@ mark-exact m hn hr hp ht =
     t : ℕ
     t = m .refusal + 256 * u
 
-    a : packedMark m / 256 ≡ t
+    a : packedFields m / 256 ≡ t
     a = high 256 (m .number) t hn
 
     b : t / 256 ≡ u
@@ -96,7 +96,7 @@ mark-exact m hn hr hp ht =
     c = high 65536 (m .product) v hp
 
     same : {i j k l o : ℕ} → i ≡ m .number → j ≡ m .refusal → k ≡ m .product → l ≡ m .transition → o ≡ m .point
-        → _≡_ {A = Mark} (record { number = i; refusal = j; product = k; transition = l; point = o }) m
+        → _≡_ {A = Fields} (record { number = i; refusal = j; product = k; transition = l; point = o }) m
     same a b c d e = rw (a, b, c, d, e)
 
 module _ {n : ℕ} {f ts : List ℕ} where
@@ -116,7 +116,7 @@ module _ {n : ℕ} {f ts : List ℕ} where
           subst⁻¹ AnswerFits s l
 
   -- and so does every verdict's refusal.
-  pub verified-fits : {bytes : List ℕ} {v : Verdict} → Verified n f ts bytes v → mark v .refusal < 256
+  pub verified-fits : {bytes : List ℕ} {v : Verdict} → Verified n f ts bytes v → fieldsOf v .refusal < 256
   verified-fits {bytes} {v} p =
-      let e : mark v .refusal ≡ _ = ap (λ (m : Mark). m .refusal) (p .marked) in
+      let e : fieldsOf v .refusal ≡ _ = ap (λ (m : Fields). m .refusal) (p .fields) in
       omega (arith, verdict-bounds n f ts bytes .refusal)

@@ -6,7 +6,7 @@ use Prim.Native.Nat.{ℕ, _/_, _%_, _≤_, _<_}
 use lib.Dec.{eqb}
 use Rattle.hazard.specs.Refusal.{Refusal}
 use Rattle.hazard.specs.Minimal.{Minimised, written, declined}
-use Rattle.hazard.specs.Verdict.{Verdict, Mark, mark, Verified}
+use Rattle.hazard.specs.Verdict.{Verdict, Fields, fieldsOf, Verified}
 
 -- A refusal: its number in bits 0 to 7, the transition in 8 to 23, the label or point in 24 to 39, the steps in 40 to 47, the lowest
 -- zero in 48 to 63.
@@ -26,7 +26,7 @@ unpackedAnswer w = cond (eqb (w % 256) 0) (written (w / 256)) (declined (unpacke
 
 -- A verdict: its number in bits 0 to 7, the refusal's in 8 to 15, the product in 16 to 31, the transition in 32 to 47, the label or
 -- point in 48 to 63.
-abbrev pub unpackedVerdict : ℕ → Mark
+abbrev pub unpackedVerdict : ℕ → Fields
 unpackedVerdict w = record {
   number = w % 256;
   refusal = w / 256 % 256;
@@ -39,7 +39,7 @@ unpackedVerdict w = record {
 pub record ReadVerdict (n : ℕ) (f ts bytes : List ℕ) (w : ℕ) : Type 0 where
   pub verdict : Verdict
   pub verified : Verified n f ts bytes verdict
-  pub is : unpackedVerdict w ≡ mark verdict
+  pub is : unpackedVerdict w ≡ fieldsOf verdict
 
 -- A refusal whose fields fit their places. Its number is not 0, which stands for a count, and it names no product.
 pub record RefusalFits (q : Refusal) : Type 0 where

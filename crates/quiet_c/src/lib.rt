@@ -2,7 +2,7 @@
 ghost use mathlib.Core.Path.{_≡_};
 ghost use Prim.Native.Nat.{_<_};
 ghost use Rattle.hazard.specs.Minimal.{Promise};
-ghost use Rattle.hazard.specs.Verdict.{mark};
+ghost use Rattle.hazard.specs.Verdict.{fieldsOf};
 ghost use Rattle.problem.specs.Answer.{refusalOf};
 ghost use Rattle.minimiser.specs.Answer.{minimisedOf};
 ghost use Rattle.verifier.specs.Answer.{verdictOf};
@@ -46,8 +46,8 @@ fn packed(number: u8, refusal: u8, product: u16, transition: u16, point: u16) ->
 
 // The verifier's verdict.
 fn packed_verdict(v: Verdict) -> u64
-    requires { ⌜ mark (verdictOf v) .refusal < 256 ⌝ }
-    ensures { λ w. ⌜ unpackedVerdict w ≡ mark (verdictOf v) ⌝ }
+    requires { ⌜ fieldsOf (verdictOf v) .refusal < 256 ⌝ }
+    ensures { λ w. ⌜ unpackedVerdict w ≡ fieldsOf (verdictOf v) ⌝ }
 {
     match v {
         Verdict::Refused(r) => packed(0, r.number as u8, r.product, r.transition, r.point),

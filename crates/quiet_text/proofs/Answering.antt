@@ -12,7 +12,7 @@ use Rattle.hazard.proofs.Search.{none-some}
 use Rattle.problem_text.specs.Form.{Form, Formed, flat}
 use Rattle.answer_text.specs.Output.{refusalText}
 use Rattle.problem_text.specs.Read.{Reading, problem, malformed}
-use Rattle.quiet_text.specs.Answer.{checks, Printed, Solved, Promise}
+use Rattle.quiet_text.specs.Answer.{checks, Printed, Solved, Replied}
 use Rattle.problem_text.specs.declared.read.Read.the-variants as read
 use Rattle.problem_text.proofs.Forms.{form-unique}
 use Rattle.quiet_text.proofs.Solving.{printed-within}
@@ -35,8 +35,8 @@ only-solved {n = n} {f = f} {ps = ps} {before = before} {after = after} {r = r} 
     subst (λ (qs : List (ℕ × ℕ)). Solved m g (flat qs) before after r) k a₂
 
 module _ {text before after : List ℕ} {r : Option ℕ} where
-  pub promise-short : length before < 22543 → after ≡ before → r ≡ none → Promise text before after r
-  promise-short h e n =
+  pub replied-short : length before < 22543 → after ≡ before → r ≡ none → Replied text before after r
+  replied-short h e n =
       record {
         noRoom = λ l. (n, e);
         within = λ k s. none-some (sym n ∙ s);
@@ -45,8 +45,8 @@ module _ {text before after : List ℕ} {r : Option ℕ} where
       }
 
   module _ {f ts : List ℕ} (h : 22543 ≤ length before) where
-    pub promise-malformed : Reading text f ts read.Malformed → Printed before (refusalText (refusal 13 0 0)) after r → Promise text before after r
-    promise-malformed (malformed n) w =
+    pub replied-malformed : Reading text f ts read.Malformed → Printed before (refusalText (refusal 13 0 0)) after r → Replied text before after r
+    replied-malformed (malformed n) w =
         record {
           noRoom = λ l. absurd (omega (arith, l));
           within = printed-within w;
@@ -55,8 +55,8 @@ module _ {text before after : List ℕ} {r : Option ℕ} where
         }
 
     -- The table and the list are lent as parts of the room, from 0 on.
-    pub promise-solved : {n k t : ℕ} → Reading text f ts (read.Problem n k t) → Solved n (take (k - 0) f) (take (t - 0) ts) before after r → Promise text before after r
-    promise-solved {n} {k} {t} (problem ps s e l m) a =
+    pub replied-solved : {n k t : ℕ} → Reading text f ts (read.Problem n k t) → Solved n (take (k - 0) f) (take (t - 0) ts) before after r → Replied text before after r
+    replied-solved {n} {k} {t} (problem ps s e l m) a =
         let c : Solved n (take k f) (take t ts) before after r = subst₂ (λ (i j : ℕ). Solved n (take i f) (take j ts) before after r) (sub-zero k) (sub-zero t) a in
         let b : Solved n (take k f) (flat ps) before after r = subst (λ (q : List ℕ). Solved n (take k f) q before after r) e c in
         record {

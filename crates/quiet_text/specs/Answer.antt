@@ -38,7 +38,7 @@ pub record Solved (n : ℕ) (f ts before after : List ℕ) (r : Option ℕ) : Ty
   pub none· : Accepted n f ts → ((q : Refusal) × Printed before (refusalText q) after r × (q .number ≡ 10)) ↔ NoNetwork n f ts
 
 -- What is printed for a text, into a buffer of at least 22,543 bytes; a shorter one is left as it was.
-pub record Promise (text before after : List ℕ) (r : Option ℕ) : Type 0 where
+pub record Replied (text before after : List ℕ) (r : Option ℕ) : Type 0 where
   pub noRoom : length before < 22543 → (r ≡ none) × (after ≡ before)
   -- What is counted lies in the buffer.
   pub within : (k : ℕ) → r ≡ some k → k ≤ length after

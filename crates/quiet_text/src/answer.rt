@@ -2,7 +2,7 @@
 ghost use mathlib.Core.Option.{some};
 ghost use Prim.Native.Nat.{_≤_, _<_};
 ghost use lib.ListN.{length};
-ghost use Rattle.quiet_text.specs.Answer.{writtenOf, Solved, Promise};
+ghost use Rattle.quiet_text.specs.Answer.{writtenOf, Solved, Replied};
 use answer_text::reply::put_network;
 use answer_text::reply::put_refusal;
 use minimiser::minimise::minimise;
@@ -37,7 +37,7 @@ fn reply_with(
     out: &mut [u8],
 ) -> usize
     requires { ⌜ (4096 ≤ length (now table)) × (2048 ≤ length (now transitions)) × (20480 ≤ length (now cover)) × (22543 ≤ length (now out)) ⌝ }
-    ensures { λ r. ⌜ Promise (now (text .entry)) (now (out .entry)) (now (out .exit)) (some r) ⌝ }
+    ensures { λ r. ⌜ Replied (now (text .entry)) (now (out .entry)) (now (out .exit)) (some r) ⌝ }
 {
     let Read::Problem(n, k, t) = read_problem(text, table, transitions) else {
         return put_refusal(refuse(13, 0, 0), out);
@@ -49,7 +49,7 @@ fn reply_with(
 // head of 9, a count of 5, an end of line, and 2,048 lines of 11.
 pub fn reply(text: &[u8], out: &mut [u8]) -> usize
     requires { ⌜ 22543 ≤ length (now out) ⌝ }
-    ensures { λ r. ⌜ Promise (now (text .entry)) (now (out .entry)) (now (out .exit)) (some r) ⌝ }
+    ensures { λ r. ⌜ Replied (now (text .entry)) (now (out .entry)) (now (out .exit)) (some r) ⌝ }
 {
     let mut table = [0u8; 4096];
     let mut transitions = [0u16; 2048];
@@ -59,7 +59,7 @@ pub fn reply(text: &[u8], out: &mut [u8]) -> usize
 
 // The output for a text, in a buffer of any length: the products of a network, or a refusal.
 pub fn answer(text: &[u8], out: &mut [u8]) -> Output
-    ensures { λ r. ⌜ Promise (now (text .entry)) (now (out .entry)) (now (out .exit)) (writtenOf r) ⌝ }
+    ensures { λ r. ⌜ Replied (now (text .entry)) (now (out .entry)) (now (out .exit)) (writtenOf r) ⌝ }
 {
     if out.len() < 22543 {
         return Output::NoRoom;

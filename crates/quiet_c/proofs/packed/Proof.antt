@@ -1,5 +1,5 @@
 use borrow.Author.Needs.{needs}
-use Rattle.quiet_c.proofs.Exact.{mark-exact}
+use Rattle.quiet_c.proofs.Exact.{fields-exact}
 use Rattle.quiet_c.proofs.packed.Statement.{statement}
 use Rattle.quiet_c.proofs.packed.Tie as tie
 
@@ -30,7 +30,7 @@ add-result c = search needs
 returns : tie.Need-returns
 returns c =
     let a = c .args in
-    mark-exact (record { number = a .number; refusal = a .refusal; product = a .product; transition = a .transition; point = a .point }) (search needs) (search needs) (search needs) (search needs)
+    fields-exact (record { number = a .number; refusal = a .refusal; product = a .product; transition = a .transition; point = a .point }) (search needs) (search needs) (search needs) (search needs)
 
 pub packed-spec : {M : Type 1} → statement M
 packed-spec =

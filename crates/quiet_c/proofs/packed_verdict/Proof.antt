@@ -1,7 +1,7 @@
 use mathlib.Core.Path.{sym, ap, subst, _∙_}
 use Prim.Native.Nat.{_<_}
 use borrow.Author.Needs.{needs}
-use Rattle.hazard.specs.Verdict.{mark}
+use Rattle.hazard.specs.Verdict.{fieldsOf}
 use Rattle.verifier.specs.Answer.{verdictOf}
 use Rattle.verifier.specs.declared.fault.Verdict.{Verdict}
 use Rattle.quiet_c.proofs.packed_verdict.Statement.{statement}
@@ -12,7 +12,7 @@ enum-known-v c = search needs
 
 cast-packed : tie.Need-cast-packed
 cast-packed c =
-    let h : c .before .before .v .given .0 .0 .number < 256 = subst (λ (v : Verdict). mark (verdictOf v) .refusal < 256) (c .before .before .v .given .1) (c .before .before .before .before .pre) in
+    let h : c .before .before .v .given .0 .0 .number < 256 = subst (λ (v : Verdict). fieldsOf (verdictOf v) .refusal < 256) (c .before .before .v .given .1) (c .before .before .before .before .pre) in
     search needs
 
 packed-requires : tie.Need-packed-requires
@@ -43,19 +43,19 @@ packed-requires-5 : tie.Need-packed-requires-5
 packed-requires-5 c κs = search needs
 
 returns : tie.Need-returns
-returns c = c .packed .ensures ∙ sym (ap (λ (v : Verdict). mark (verdictOf v)) (c .before .before .before .v .given .1))
+returns c = c .packed .ensures ∙ sym (ap (λ (v : Verdict). fieldsOf (verdictOf v)) (c .before .before .before .v .given .1))
 
 returns-2 : tie.Need-returns-2
-returns-2 c = c .packed2 .ensures ∙ sym (ap (λ (v : Verdict). mark (verdictOf v)) (c .before .enum-told .given .1))
+returns-2 c = c .packed2 .ensures ∙ sym (ap (λ (v : Verdict). fieldsOf (verdictOf v)) (c .before .enum-told .given .1))
 
 returns-3 : tie.Need-returns-3
-returns-3 c = c .packed3 .ensures ∙ sym (ap (λ (v : Verdict). mark (verdictOf v)) (c .before .before .v2 .given .1))
+returns-3 c = c .packed3 .ensures ∙ sym (ap (λ (v : Verdict). fieldsOf (verdictOf v)) (c .before .before .v2 .given .1))
 
 returns-4 : tie.Need-returns-4
-returns-4 c = c .packed4 .ensures ∙ sym (ap (λ (v : Verdict). mark (verdictOf v)) (c .before .before .v3 .given .1))
+returns-4 c = c .packed4 .ensures ∙ sym (ap (λ (v : Verdict). fieldsOf (verdictOf v)) (c .before .before .v3 .given .1))
 
 returns-5 : tie.Need-returns-5
-returns-5 c = c .packed5 .ensures ∙ sym (ap (λ (v : Verdict). mark (verdictOf v)) (c .before .before .v4 .given .1))
+returns-5 c = c .packed5 .ensures ∙ sym (ap (λ (v : Verdict). fieldsOf (verdictOf v)) (c .before .before .v4 .given .1))
 
 pub packed-verdict-spec : {M : Type 1} → statement M
 packed-verdict-spec =

@@ -5,7 +5,7 @@ use lib.Count.{ones-le}
 use lib.ListN.{length}
 use lib.Pow.{pow-mono}
 use Rattle.hazard.specs.Search.{those}
-use Rattle.hazard.specs.Sets.{last}
+use Rattle.hazard.specs.Sets.{maximalLabel}
 use Rattle.cube.specs.PointSet.{inSet}
 use Rattle.points.specs.Turn.{lasts}
 use Rattle.points.proofs.Walk.{Agrees, inWords, Visit, visit-start, visit-next}
@@ -17,7 +17,7 @@ use Rattle.problem.proofs.label.count_between.Tie as tie
 
 abbrev Inv-loop : tie.InvT-loop
 Inv-loop n table ones s e m h words k₀ w₀ k w =
-    (2 ^ n ≤ 1024) × (words ≡ (2 ^ n + 63) / 64) × Visit h w × Tally h m (lasts n (inSet ones) s e) w k (length (those (last n table s e) 0 (2 ^ n)))
+    (2 ^ n ≤ 1024) × (words ≡ (2 ^ n + 63) / 64) × Visit h w × Tally h m (lasts n (inSet ones) s e) w k (length (those (maximalLabel n table s e) 0 (2 ^ n)))
 
 abbrev μ-loop : tie.MeasureT-loop
 μ-loop n table ones s e m h words k₀ w₀ k w = words - w
@@ -38,7 +38,7 @@ cast-w : tie.Need-cast-w Inv-loop μ-loop
 cast-w c = search needs
 
 -- The labels by words are those of [S,E].
-agree : (c : tie.After-word-cube Inv-loop μ-loop) → let a = c .before .before .before .before .before .args in Agrees (inWords (c .word-cube .result) (c .before .low-mask .result) (lasts (a .n) (inSet (a .ones .now)) (a .s) (a .e))) (last (a .n) (a .table .now) (a .s) (a .e)) (2 ^ (a .n))
+agree : (c : tie.After-word-cube Inv-loop μ-loop) → let a = c .before .before .before .before .before .args in Agrees (inWords (c .word-cube .result) (c .before .low-mask .result) (lasts (a .n) (inSet (a .ones .now)) (a .s) (a .e))) (maximalLabel (a .n) (a .table .now) (a .s) (a .e)) (2 ^ (a .n))
 agree c =
     let s = c .before .before .before .before .before in
     agrees (c .before .before .span-of .ensures) (c .before .low-mask .ensures) (c .word-cube .ensures) (lasts-agree (s .args .n) (s .pre .0 .1) (s .args .s) (s .args .e) (s .pre .1))
@@ -62,7 +62,7 @@ add-k : tie.Need-add-k Inv-loop μ-loop
 add-k c =
     let a = c .before .before .before .before .before .before .before .before .before .args in
     let l = c .before .before .loop in
-    omega (arith, l .inv .0, l .inv .3 .sum, those-few (last (a .n) (a .table .now) (a .s) (a .e)) 0 (2 ^ (a .n)), ones-le 64 (c .last-points .result) (c .last-points .ensures .small))
+    omega (arith, l .inv .0, l .inv .3 .sum, those-few (maximalLabel (a .n) (a .table .now) (a .s) (a .e)) 0 (2 ^ (a .n)), ones-le 64 (c .last-points .result) (c .last-points .ensures .small))
 
 next-requires : tie.Need-next-requires Inv-loop μ-loop
 next-requires c κs =

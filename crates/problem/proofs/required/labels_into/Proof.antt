@@ -4,7 +4,7 @@ use native.Mathlib.Omega.{arith}
 use lib.ListN.{length}
 use lib.Pow.{pow-mono}
 use Rattle.hazard.specs.Search.{those}
-use Rattle.hazard.specs.Sets.{last}
+use Rattle.hazard.specs.Sets.{maximalLabel}
 use Rattle.cube.specs.Entry.{requiredIn}
 use Rattle.cube.specs.PointSet.{inSet}
 use Rattle.points.specs.Turn.{lasts}
@@ -20,7 +20,7 @@ use Rattle.problem.proofs.required.labels_into.Tie as tie
 abbrev Inv-loop : tie.InvT-loop
 Inv-loop n table ones t s e out₀ at m h words k₀ w₀ out k w =
     (2 ^ n ≤ 1024) × (words ≡ (2 ^ n + 63) / 64) × (length out ≡ length out₀) × Visit h w
-    × Walked n (requiredIn n) (requiredTo n t s) out₀ out at k h m (lasts n (inSet ones) s e) w (those (last n table s e) 0 (2 ^ n))
+    × Walked n (requiredIn n) (requiredTo n t s) out₀ out at k h m (lasts n (inSet ones) s e) w (those (maximalLabel n table s e) 0 (2 ^ n))
 
 abbrev μ-loop : tie.MeasureT-loop
 μ-loop n table ones t s e out₀ at m h words k₀ w₀ out k w = words - w
@@ -41,7 +41,7 @@ cast-w : tie.Need-cast-w Inv-loop μ-loop
 cast-w c = search needs
 
 -- The labels by words are those of [S,E].
-agree : (c : tie.After-word-cube Inv-loop μ-loop) → let a = c .before .before .before .before .before .before .args in Agrees (inWords (c .word-cube .result) (c .before .low-mask .result) (lasts (a .n) (inSet (a .ones .now)) (a .s) (a .e))) (last (a .n) (a .table .now) (a .s) (a .e)) (2 ^ (a .n))
+agree : (c : tie.After-word-cube Inv-loop μ-loop) → let a = c .before .before .before .before .before .before .args in Agrees (inWords (c .word-cube .result) (c .before .low-mask .result) (lasts (a .n) (inSet (a .ones .now)) (a .s) (a .e))) (maximalLabel (a .n) (a .table .now) (a .s) (a .e)) (2 ^ (a .n))
 agree c =
     let s = c .before .before .before .before .before .before in
     agrees (c .before .before .span-of .ensures) (c .before .low-mask .ensures) (c .word-cube .ensures) (lasts-agree (s .args .n) (s .pre .0 .1) (s .args .s) (s .args .e) (s .pre .0 .4))

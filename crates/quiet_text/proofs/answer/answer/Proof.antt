@@ -1,12 +1,12 @@
 use mathlib.Core.Path.{refl}
 use native.Mathlib.Omega.{arith}
 use borrow.Author.Needs.{needs}
-use Rattle.quiet_text.proofs.Answering.{promise-short}
+use Rattle.quiet_text.proofs.Answering.{replied-short}
 use Rattle.quiet_text.proofs.answer.answer.Statement.{statement}
 use Rattle.quiet_text.proofs.answer.answer.Tie as tie
 
 returns : tie.Need-returns
-returns c = promise-short (omega arith) refl refl
+returns c = replied-short (omega arith) refl refl
 
 reply-requires : tie.Need-reply-requires
 reply-requires c κs = search needs

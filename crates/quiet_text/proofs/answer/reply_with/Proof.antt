@@ -6,7 +6,7 @@ use Rattle.answer_text.specs.Output.{refusalText}
 use Rattle.answer_text.specs.Wrote.{Wrote}
 use Rattle.problem_text.specs.Read.{Reading}
 use Rattle.quiet_text.proofs.Solving.{printed-from, refusal-length}
-use Rattle.quiet_text.proofs.Answering.{promise-malformed, promise-solved, table-within, list-within}
+use Rattle.quiet_text.proofs.Answering.{replied-malformed, replied-solved, table-within, list-within}
 use Rattle.quiet_text.proofs.answer.reply_with.Statement.{statement}
 use Rattle.quiet_text.proofs.answer.reply_with.Tie as tie
 
@@ -40,7 +40,7 @@ returns c =
     let q = c .before .before .before .before .before .before .before .before .before .before .before .read-problem in
     let d = subst (Reading (s .args .text .now) (q .last .1 .0) (q .last .1 .1 .0)) (c .before .before .before .before .before .enum-told .given .1) (q .ensures) in
     let w = subst (λ (m : Refusal). Wrote (s .args .out .now) 0 (refusalText m) (c .before .before .put-refusal .last .1 .0) (c .before .before .put-refusal .result)) (c .before .before .before .before .refuse .ensures) (c .before .before .put-refusal .ensures) in
-    promise-malformed (s .pre .3) d (printed-from w (omega (arith, refusal-length (refusal 13 0 0), s .pre .3)))
+    replied-malformed (s .pre .3) d (printed-from w (omega (arith, refusal-length (refusal 13 0 0), s .pre .3)))
 
 sub-solve : tie.Need-sub-solve
 sub-solve c = search needs
@@ -88,7 +88,7 @@ returns-2 c =
     let s = c .before .before .before .before .before .before .before .before .before .before .before .before .before .before .before .before .before .before .before .before .before .before .before .before .before .before in
     let q = c .before .before .before .before .before .before .before .before .before .before .before .before .before .before .before .before .before .before .read-problem in
     let d = subst (Reading (s .args .text .now) (q .last .1 .0) (q .last .1 .1 .0)) (c .before .before .before .before .before .before .before .before .before .before .before .before .n .given .1) (q .ensures) in
-    promise-solved (s .pre .3) d (c .before .before .before .before .solve .ensures)
+    replied-solved (s .pre .3) d (c .before .before .before .before .solve .ensures)
 
 pub reply-with-spec : {M : Type 1} → statement M
 reply-with-spec =
