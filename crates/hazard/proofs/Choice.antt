@@ -1,8 +1,6 @@
 -- Choice: from products that cover the required cubes, going backwards, one is kept where some required cube lies in it,
 -- in none before it and in none kept so far. What is kept covers, and none of it can be dropped.
-use mathlib.Core.Path.{_≡_, refl}
 use mathlib.Core.Logic.{_⊎_, inl, inr}
-use mathlib.Core.Bool.{Bool}
 use mathlib.Core.List.{List, [], _∷_, _++_, List·Memᴰ}
 use Prim.Native.Nat.{ℕ, zero, suc, _+_, _≤_, _<_}
 use native.Mathlib.Omega.{arith}

@@ -3,11 +3,10 @@ use mathlib.Core.Path.{_≡_, refl, sym, ap}
 use mathlib.Core.Logic.{_↔_, _≢_, inl, inr, ∥∥₁-elim}
 use mathlib.Core.HLevel.{⊥-prop}
 use mathlib.Core.Bool.{Bool, not, _&&_}
-use mathlib.Core.List.{List, [], _∷_, List·Memᴰ, List·Memᴰ·head, List·Memᴰ·tail, List·Memᴰ·cases-cons, List·Memᴰ·not-nil, List·Mem, List·Nodup, Pairwise·nil, Pairwise·cons}
+use mathlib.Core.List.{List, [], _∷_, List·Memᴰ, List·Memᴰ·head, List·Memᴰ·tail, List·Memᴰ·cases-cons, List·Mem, List·Nodup, Pairwise·nil, Pairwise·cons}
 use mathlib.Core.Option.{Option, none, some, Option·some-injective}
-use Prim.Native.Nat.{ℕ, zero, suc, _^_, _≤_, _<_}
+use Prim.Native.Nat.{ℕ, zero, suc, _^_, _≤_}
 use native.Mathlib.Omega.{arith}
-use native.Mathlib.Nat.{not-suc-le-zero, le-of-suc-le-suc}
 use lib.Dec.{T}
 use lib.ListN.{length}
 use Rattle.hazard.specs.Search.{find}

@@ -8,7 +8,7 @@ use Rattle.hazard.specs.Search.{firstOf}
 use Rattle.hazard.specs.Cover.{Network}
 use Rattle.hazard.specs.Refusal.{Accepted}
 use Rattle.hazard.specs.Minimal.{minimiserChecks}
-use Rattle.hazard.specs.Piece.{Piece, bufferLength, Exactly, Holds}
+use Rattle.hazard.specs.Piece.{bufferLength, Exactly, Holds}
 use Rattle.hazard.specs.Pieces.{pieces}
 use Rattle.hazard.proofs.Essential.{essential, essential-minimal, essential-only}
 

@@ -4,7 +4,7 @@ use mathlib.Core.List.{List, _++_, map, List·Memᴰ, Memᴰ·of-map}
 use Prim.Native.Nat.{ℕ, _+_, _*_, _-_, _≤_}
 use native.Mathlib.Nat.{sub-zero, le-refl, le-trans, mul-le-mul-right}
 use native.Mathlib.Omega.{arith}
-use lib.ListN.{length, getD, take, drop, length-drop, length-append, length-map}
+use lib.ListN.{length, take, drop, length-drop, length-append, length-map}
 use lib.Seq.{drop-append-le, take-at, getD-take, getD-drop, length-take-le}
 use Rattle.hazard.specs.Cube.{Cube}
 use Rattle.hazard.specs.Implicant.{DhfPrime}

@@ -1,5 +1,5 @@
 -- The program's promise, from what was read and what was printed.
-use mathlib.Core.Path.{_≡_, refl, sym, ap, subst, subst₂, _∙_}
+use mathlib.Core.Path.{_≡_, refl, sym, subst, subst₂, _∙_}
 use mathlib.Core.List.{List}
 use mathlib.Core.Option.{Option, none, some}
 use Prim.Native.Nat.{ℕ, _-_, _≤_, _<_}
@@ -9,7 +9,7 @@ use lib.ListN.{length, take}
 use Rattle.hazard.specs.Search.{firstOf}
 use Rattle.hazard.specs.Refusal.{Refusal, refusal}
 use Rattle.hazard.proofs.Search.{none-some}
-use Rattle.problem_text.specs.Form.{Form, Formed, flat}
+use Rattle.problem_text.specs.Form.{Form, flat}
 use Rattle.answer_text.specs.Output.{refusalText}
 use Rattle.problem_text.specs.Read.{Reading, problem, malformed}
 use Rattle.quiet_text.specs.Answer.{checks, Printed, Solved, Replied}
