@@ -1,6 +1,5 @@
 -- What is packed is read back, and every answer fits.
 use mathlib.Core.Path.{_≡_, refl, sym, ap, subst⁻¹, _∙_}
-use mathlib.Core.Bool.{Bool, false, cond}
 use mathlib.Core.List.{List, [], _∷_}
 use mathlib.Core.Option.{Option, none, some}
 use Prim.Native.Nat.{ℕ, _+_, _*_, _/_, _%_, _≤_, _<_}
@@ -12,7 +11,7 @@ use Rattle.hazard.specs.Search.{firstOf}
 use Rattle.hazard.specs.Refusal.{Refusal, inputChecks, Accepted}
 use Rattle.hazard.specs.Minimal.{roomCheck, blocking, minimiserChecks, Minimised, written, declined, Promise}
 use Rattle.hazard.specs.Verdict.{Fields, fieldsOf, Verdict, Verified}
-use Rattle.hazard.proofs.Test.{isnt}
+use Rattle.hazard.proofs.Test.{cond-no}
 use Rattle.hazard.proofs.Search.{firstOf-append}
 use Rattle.hazard.proofs.Bounds.{minimiser-bounds, minimal-few, verdict-bounds}
 use Rattle.quiet_c.specs.Packed.{unpackedRefusal, unpackedAnswer, unpackedVerdict, RefusalFits, AnswerFits}
@@ -59,8 +58,7 @@ refusal-exact q h =
 pub declined-exact : (w : ℕ) {q : Refusal} → 1 ≤ q .number → unpackedRefusal w ≡ q → unpackedAnswer w ≡ declined q
 declined-exact w {q} h e =
     let n : w % 256 ≡ q .number = ap (λ (r : Refusal). r .number) e in
-    let z : eqb (w % 256) 0 ≡ false = isnt (eqb (w % 256) 0) (λ t. omega (arith, eqb→eq (w % 256) 0 t)) in
-    ap (λ (b : Bool). cond b (written (w / 256)) (declined (unpackedRefusal w))) z ∙ ap declined e
+    cond-no (eqb (w % 256) 0) _ _ (λ t. omega (arith, eqb→eq (w % 256) 0 t)) ∙ ap declined e
 
 pub written-exact : (k : ℕ) → unpackedAnswer (256 * k) ≡ written k
 written-exact k =

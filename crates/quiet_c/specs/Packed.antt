@@ -51,7 +51,7 @@ pub record RefusalFits (q : Refusal) : Type 0 where
   pub lowest : q .lowest < 65536
   pub product : q .product ≡ 0
 
--- An answer that fits.
+-- An answer that fits: a count of at most 65,535 products, or a refusal.
 abbrev pub AnswerFits : Minimised → Type 0
 AnswerFits (written k) = k < 65536
 AnswerFits (declined q) = RefusalFits q
