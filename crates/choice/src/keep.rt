@@ -52,7 +52,7 @@ fn needed(firsts: &[u16], flags: &[bool], j: u16, made_for: usize) -> bool
 // Going backwards, a product is kept where some required cube needs it. Those kept are moved to the end, in their order; the place of the
 // first of them. The flags tell which required cubes lie in a kept product; `uncovered` is the set of the others, and `taken` is room for
 // a set. `columns` has the required cubes for its rows.
-pub fn kept_from(
+pub fn irredundant_from(
     n: usize,
     required: &[u64],
     columns: &[u64],

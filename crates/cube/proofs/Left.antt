@@ -1,6 +1,6 @@
 -- What is left of a loop over a list of words, from the first on.
 use mathlib.Core.Path.{_≡_, refl, sym, ap, _∙_}
-use mathlib.Core.Bool.{Bool, true, false, _||_}
+use mathlib.Core.Bool.{Bool, true, false}
 use mathlib.Core.List.{List, [], _∷_, map}
 use mathlib.Core.Option.{Option, none, some}
 use Prim.Native.Nat.{ℕ, suc, _+_, _≤_, _<_}
@@ -8,8 +8,6 @@ use native.Mathlib.Numerals.{add-one}
 use lib.ListN.{length, getD, drop, drop-of-length-le}
 use lib.Seq.{drop-cons}
 use Rattle.hazard.specs.Search.{find, firstOf}
-use Rattle.hazard.specs.Cube.{Cube, inside}
-use Rattle.hazard.specs.Cover.{covered}
 
 -- The whole answer is the answer on the words from k on.
 pub record Left {A : Type 0} (look : List ℕ → A) (l : List ℕ) (k : ℕ) : Type 0 where
@@ -55,11 +53,3 @@ module _ {A B : Type 0} (check : A → Option B) (f : ℕ → A) {l : List ℕ} 
     where
       at : (o : Option B) (m : List (Option B)) → o ≡ none → firstOf (o ∷ m) ≡ firstOf m
       at o m e = rw (e, firstOf)
-
--- A cube inside the cube of some word.
-module _ {c : Cube} {f : ℕ → Cube} {l : List ℕ} {k : ℕ} (s : Left (λ w. covered (map f w) c) l k) (h : k < length l) where
-  pub covered-hit : inside c (f (getD l k 0)) ≡ true → true ≡ covered (map f l) c
-  covered-hit e = ap (λ (b : Bool). b || covered (map f (drop (suc k) l)) c) (sym e) ∙ left-here s h
-
-  pub covered-miss : inside c (f (getD l k 0)) ≡ false → Left (λ w. covered (map f w) c) l (k + 1)
-  covered-miss e = left-on s h (ap (λ (b : Bool). b || covered (map f (drop (suc k) l)) c) e)

@@ -12,7 +12,7 @@ ghost use Rattle.minimiser.specs.Answer.{minimisedOf, Answered};
 use crate::choose::choose;
 use crate::network::Minimised;
 use crate::write::write_network;
-use choice::keep::kept_from;
+use choice::keep::irredundant_from;
 
 // Products are chosen forwards, those that can be dropped are dropped backwards, and the others are written; or a required cube blocks.
 pub fn select(
@@ -48,7 +48,7 @@ pub fn select(
     let Minimised::Products(m) = chosen else {
         return chosen;
     };
-    let kept = kept_from(
+    let kept = irredundant_from(
         n,
         required,
         columns,

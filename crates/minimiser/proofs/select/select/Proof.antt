@@ -51,17 +51,17 @@ chosen-is c =
     let h = c .before .before .before .before .before .before .before .before .before .before .choose in
     subst (Choice (a .n) (a .off .now) (a .privileged .now) (a .required .now) (h .last .1 .1 .1 .1 .1 .1 .1 .1 .0) (h .last .1 .1 .1 .1 .1 .1 .1 .1 .1 .0)) (c .chosen .given .1) (h .ensures)
 
-sub-kept-from : tie.Need-sub-kept-from
-sub-kept-from c = search needs
+sub-irredundant-from : tie.Need-sub-irredundant-from
+sub-irredundant-from c = search needs
 
-part-kept-from-start : tie.Need-part-kept-from-start
-part-kept-from-start c = search needs
+part-irredundant-from-start : tie.Need-part-irredundant-from-start
+part-irredundant-from-start c = search needs
 
-part-kept-from-end : tie.Need-part-kept-from-end
-part-kept-from-end c = search (needs, chosen-is (c .before .before) .1 .low)
+part-irredundant-from-end : tie.Need-part-irredundant-from-end
+part-irredundant-from-end c = search (needs, chosen-is (c .before .before) .1 .low)
 
-kept-from-requires : tie.Need-kept-from-requires
-kept-from-requires c κs =
+irredundant-from-requires : tie.Need-irredundant-from-requires
+irredundant-from-requires c κs =
     let s = c .before .before .before .before .before .before .before .before .before .before .before .before .before .before .before .before .before .before .before .before .before .before .before .before .before .before .before .before .before .before in
     let t = c .before .before .before .before .before .before .before .before .before .before .before .before .before .before .before .choose in
     let h = chosen-is (c .before .before .before .before .before) .1 in
@@ -69,7 +69,7 @@ kept-from-requires c κs =
     ((s .pre .0 .0 .few, rw (sub-zero (c .before .before .before .before .before .chosen .given .0 .0)) (h .noted), s .pre .1 .0 .0), (omega (arith, e, s .pre .1 .0 .1), omega (arith, e, s .pre .1 .0 .2), t .kept .1 .1 .1 .1 .1 .1 .1 .0 ∙ s .pre .1 .0 .3 ∙ sym e))
 
 mul-write-network : tie.Need-mul-write-network
-mul-write-network c = let h = chosen-is (c .before .before .before .before .before .before .before .before .before .before .before .before) .1 in omega (arith, kept-low h (c .before .before .before .before .before .before .kept-from .ensures), chosen-few h, c .before .before .before .before .before .before .before .before .before .before .before .before .before .before .before .before .before .before .before .before .before .before .before .before .before .before .before .before .before .before .before .before .before .before .before .before .before .pre .0 .2)
+mul-write-network c = let h = chosen-is (c .before .before .before .before .before .before .before .before .before .before .before .before) .1 in omega (arith, kept-low h (c .before .before .before .before .before .before .irredundant-from .ensures), chosen-few h, c .before .before .before .before .before .before .before .before .before .before .before .before .before .before .before .before .before .before .before .before .before .before .before .before .before .before .before .before .before .before .before .before .before .before .before .before .before .pre .0 .2)
 
 sub-write-network : tie.Need-sub-write-network
 sub-write-network c = search needs
@@ -78,23 +78,23 @@ part-write-network-start : tie.Need-part-write-network-start
 part-write-network-start c = search needs
 
 part-write-network-end : tie.Need-part-write-network-end
-part-write-network-end c = kept-whole (chosen-is (c .before .before .before .before .before .before .before .before .before .before .before .before .before) .1) (c .before .before .before .before .before .before .before .kept-from .ensures) _
+part-write-network-end c = kept-whole (chosen-is (c .before .before .before .before .before .before .before .before .before .before .before .before .before) .1) (c .before .before .before .before .before .before .before .irredundant-from .ensures) _
 
 write-network-requires : tie.Need-write-network-requires
 write-network-requires c κs =
     let s = c .before .before .before .before .before .before .before .before .before .before .before .before .before .before .before .before .before .before .before .before .before .before .before .before .before .before .before .before .before .before .before .before .before .before .before .before .before .before .before .before in
     let h = chosen-is (c .before .before .before .before .before .before .before .before .before .before .before .before .before .before .before) .1 in
-    let k = c .before .before .before .before .before .before .before .before .before .kept-from in
+    let k = c .before .before .before .before .before .before .before .before .before .irredundant-from in
     (s .pre .0 .0 .few, kept-few h (k .ensures) _ (s .pre .0 .2), kept-room h (k .ensures) _ (s .pre .0 .5))
 
 sub-t26 : tie.Need-sub-t26
 sub-t26 c = search needs
 
 same-length-5 : tie.Need-same-length-5
-same-length-5 c = c .before .before .before .before .before .before .before .before .before .before .before .before .kept-from .kept .1 .1 .1 .1 .1 .0 ∙ c .before .before .before .before .before .before .before .before .before .before .before .before .before .before .before .before .before .before .before .before .before .before .before .before .before .before .before .before .choose .kept .1 .1 .1 .1 .1 .1 .0
+same-length-5 c = c .before .before .before .before .before .before .before .before .before .before .before .before .irredundant-from .kept .1 .1 .1 .1 .1 .0 ∙ c .before .before .before .before .before .before .before .before .before .before .before .before .before .before .before .before .before .before .before .before .before .before .before .before .before .before .before .before .choose .kept .1 .1 .1 .1 .1 .1 .0
 
 same-length-6 : tie.Need-same-length-6
-same-length-6 c = c .before .before .before .before .before .before .before .before .before .before .before .before .kept-from .kept .1 .1 .1 .1 .1 .1 .0 ∙ c .before .before .before .before .before .before .before .before .before .before .before .before .before .before .before .before .before .before .before .before .before .before .before .before .before .before .before .before .choose .kept .1 .1 .1 .1 .1 .1 .1 .0
+same-length-6 c = c .before .before .before .before .before .before .before .before .before .before .before .before .irredundant-from .kept .1 .1 .1 .1 .1 .1 .0 ∙ c .before .before .before .before .before .before .before .before .before .before .before .before .before .before .before .before .before .before .before .before .before .before .before .before .before .before .before .before .choose .kept .1 .1 .1 .1 .1 .1 .1 .0
 
 same-length-7 : tie.Need-same-length-7
 same-length-7 c = c .before .before .before .before .before .before .before .before .before .before .before .before .before .before .before .before .before .before .before .before .before .before .before .before .before .before .before .before .choose .kept .1 .1 .1 .1 .1 .1 .1 .1 .0
@@ -109,7 +109,7 @@ returns-2 : tie.Need-returns-2
 returns-2 c =
     let a = c .before .before .before .before .before .before .before .before .before .before .before .before .before .before .before .before .before .before .before .before .before .before .before .before .before .before .before .before .before .before .before .before .before .before .before .before .before .before .before .before .before .before .before .args in
     let h = chosen-is (c .before .before .before .before .before .before .before .before .before .before .before .before .before .before .before .before .before .before) in
-    let k = c .before .before .before .before .before .before .before .before .before .before .before .before .kept-from in
+    let k = c .before .before .before .before .before .before .before .before .before .before .before .before .irredundant-from in
     answered-written (a .n) (inSet (a .off .now)) (map (privilegedIn (a .n)) (a .privileged .now)) (map (requiredIn (a .n)) (a .required .now)) (h .0)
     (selected (h .1) (k .ensures) _ _ _ _ (c .before .before .write-network .ensures) refl)
 
@@ -125,10 +125,10 @@ select-spec =
     same-length-3
     same-length-4
     returns
-    sub-kept-from
-    part-kept-from-start
-    part-kept-from-end
-    kept-from-requires
+    sub-irredundant-from
+    part-irredundant-from-start
+    part-irredundant-from-end
+    irredundant-from-requires
     mul-write-network
     sub-write-network
     part-write-network-start

@@ -9,8 +9,8 @@ use Rattle.choice.specs.Flag.{Unflagged}
 use Rattle.choice.proofs.Flags.{unflagged-start, unflagged-low, flag-is, unflagged-next, product-test}
 use Rattle.choice.proofs.Keeping.{Keeping, keeping-start, keeping-turn, keeping-skip, keeping-keep, keeping-end}
 use borrow.Author.Needs.{needs}
-use Rattle.choice.proofs.keep.kept_from.Statement.{statement}
-use Rattle.choice.proofs.keep.kept_from.Tie as tie
+use Rattle.choice.proofs.keep.irredundant_from.Statement.{statement}
+use Rattle.choice.proofs.keep.irredundant_from.Tie as tie
 
 abbrev Inv-loop : tie.InvT-loop
 Inv-loop n required columns firsts products₀ uncovered₀ taken₀ flags₀ kept₀ j₀ products uncovered taken flags kept j = Keeping n required products₀ products flags kept j × Unflagged (length required) flags uncovered × (length uncovered ≡ length uncovered₀) × (length taken ≡ length taken₀) × (length flags ≡ 2048)
@@ -126,8 +126,8 @@ returns c =
     let e : l .j ≡ 0 = omega arith in
     keeping-end (s .pre .0 .1) (rw e at (l .inv .0))
 
-pub kept-from-spec : {M : Type 1} → statement M
-kept-from-spec =
+pub irredundant-from-spec : {M : Type 1} → statement M
+irredundant-from-spec =
     tie.close
     (tie.spec
     Inv-loop
