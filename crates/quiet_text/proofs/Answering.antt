@@ -1,8 +1,8 @@
 -- The program's promise, from what was read and what was printed.
 use mathlib.Core.Path.{_≡_, refl, sym, subst, subst₂, _∙_}
-use mathlib.Core.List.{List}
-use mathlib.Core.Option.{Option, none, some}
-use Prim.Native.Nat.{ℕ, _-_, _≤_, _<_}
+use mathlib.Core.List.{List, _∷_}
+use mathlib.Core.Option.{Option, none, some, Option·some-injective}
+use Prim.Native.Nat.{ℕ, suc, _-_, _≤_, _<_}
 use native.Mathlib.Nat.{sub-zero}
 use native.Mathlib.Omega.{arith}
 use lib.ListN.{length, take}
@@ -25,6 +25,17 @@ solved-within {n} {f} {ts} {before} {after} {r} s = go (firstOf (checks n f ts))
     go (some q) e = printed-within (s .refused q e .0)
     go none e = printed-within (s .network e .2)
 
+-- What is printed has a head, so it is not empty.
+printed-some : {before after : List ℕ} {r : Option ℕ} (b : ℕ) (bytes : List ℕ) → Printed before (b ∷ bytes) after r → (k : ℕ) → r ≡ some k → 0 < k
+printed-some b bytes w k e = let i : suc (length bytes) ≡ k = Option·some-injective _ _ (sym (w .count) ∙ e) in omega (arith, i)
+
+solved-some : {n : ℕ} {f ts before after : List ℕ} {r : Option ℕ} → Solved n f ts before after r → (k : ℕ) → r ≡ some k → 0 < k
+solved-some {n} {f} {ts} {before} {after} {r} s = go (firstOf (checks n f ts)) refl
+  where
+    go : (o : Option Refusal) → firstOf (checks n f ts) ≡ o → (k : ℕ) → r ≡ some k → 0 < k
+    go (some q) e = printed-some _ _ (s .refused q e .0)
+    go none e = printed-some _ _ (s .network e .2)
+
 -- The problem that was read is the only one that the text says.
 only-solved : {text : List ℕ} {n : ℕ} {f : List ℕ} {ps : List (ℕ × ℕ)} {before after : List ℕ} {r : Option ℕ} → Form text n f ps → Solved n f (flat ps) before after r
     → (m : ℕ) (g : List ℕ) (qs : List (ℕ × ℕ)) → Form text m g qs → Solved m g (flat qs) before after r
@@ -40,6 +51,7 @@ module _ {text before after : List ℕ} {r : Option ℕ} where
       record {
         noRoom = λ l. (n, e);
         within = λ k s. none-some (sym n ∙ s);
+        some· = λ k s. none-some (sym n ∙ s);
         malformed = λ l. absurd (omega (arith, l));
         solved = λ l. absurd (omega (arith, l));
       }
@@ -50,6 +62,7 @@ module _ {text before after : List ℕ} {r : Option ℕ} where
         record {
           noRoom = λ l. absurd (omega (arith, l));
           within = printed-within w;
+          some· = printed-some _ _ w;
           malformed = λ l m. w;
           solved = λ l n′ f′ ps s. absurd (n (n′, f′, ps, s));
         }
@@ -62,6 +75,7 @@ module _ {text before after : List ℕ} {r : Option ℕ} where
         record {
           noRoom = λ l. absurd (omega (arith, l));
           within = solved-within b;
+          some· = solved-some b;
           malformed = λ l n′. absurd (n′ (n, take k f, ps, s));
           solved = λ l. only-solved s b;
         }

@@ -42,6 +42,8 @@ pub record Replied (text before after : List ℕ) (r : Option ℕ) : Type 0 wher
   pub noRoom : length before < 22543 → (r ≡ none) × (after ≡ before)
   -- What is counted lies in the buffer.
   pub within : (k : ℕ) → r ≡ some k → k ≤ length after
+  -- The output is never empty.
+  pub some· : (k : ℕ) → r ≡ some k → 0 < k
   -- 13: the text is not of the form.
   pub malformed : 22543 ≤ length before → ¬ Formed text → Printed before (refusalText (refusal 13 0 0)) after r
   -- It is: the answer for what it says.
