@@ -38,8 +38,8 @@ fn flag(flags: &mut [bool], set: &[u64])
     }
 }
 
-// A product has come: the required cubes in it that lie in no other are flagged. `uncovered` is the set of those not flagged yet, which
-// spares looking at the others again; those in the product go over into `taken`. `columns` has the required cubes for its rows.
+// A product has come: the required cubes in it are flagged. `uncovered` is the set of those not flagged yet, so that the others are not
+// looked at again; those in the product go over from it into `taken`. `columns` has the required cubes for its rows.
 pub fn flag_product(
     n: usize,
     columns: &[u64],
