@@ -63,7 +63,7 @@ fn widened(
 ) -> Cube
     requires { ⌜ Ready n (now off) × Columns n (now privileged) (now legal) ⌝ }
     requires { ⌜ (length (now columns) ≡ 960) × (length (now uncovered) ≤ 32) × (i < 64 * length (now uncovered)) ⌝ }
-    requires { ⌜ Clean n c × T (dhfImplicant n (inSet (now off)) (map (privilegedIn n) (now privileged)) (cubeOf n c)) ⌝ }
+    requires { ⌜ T (dhfImplicant n (inSet (now off)) (map (privilegedIn n) (now privileged)) (cubeOf n c)) × Clean n c ⌝ }
     ensures { λ r. ⌜ PrimeOver n (now (off .entry)) (now (privileged .entry)) (cubeOf n c) r ⌝ }
 {
     let b = i / 64;

@@ -1,3 +1,5 @@
+use mathlib.Core.Path.{sym, subst}
+use Prim.Native.Nat.{ℕ, _≤_}
 use native.Mathlib.Omega.{arith}
 use Rattle.blocks.proofs.Members.{lowest-few, one-at, one-below, cleared, cleared-less}
 use Rattle.blocks.proofs.member.without_lowest.Statement.{statement}
@@ -10,7 +12,7 @@ shl-result : tie.Need-shl-result
 shl-result c = lowest-few (c .args .word) (c .fits .word .fits) (c .pre)
 
 sub-result : tie.Need-sub-result
-sub-result c = rw (one-at (c .args .word) (c .fits .word .fits) (c .pre)) (one-below (c .args .word) (c .fits .word .fits) (c .pre))
+sub-result c = subst (λ (y : ℕ). y ≤ c .args .word) (sym (one-at (c .args .word) (c .fits .word .fits) (c .pre))) (one-below (c .args .word) (c .fits .word .fits) (c .pre))
 
 returns : tie.Need-returns
 returns c = rw (one-at (c .args .word) (c .fits .word .fits) (c .pre)) (cleared (c .args .word) (c .fits .word .fits) (c .pre), cleared-less (c .args .word) (c .fits .word .fits) (c .pre))

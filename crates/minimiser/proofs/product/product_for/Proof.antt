@@ -51,7 +51,7 @@ widened-requires : tie.Need-widened-requires
 widened-requires c κs =
     let s = c .before .before .before .before .before .before .before .before .before .before .before .before in
     let t = stage-legal (s .args .n) (s .args .off .now) (s .args .privileged .now) (masks-digits (s .args .n) _ _) (grows (c .before .before .before)) (c .before .grown .given .1) in
-    ((s .pre .0 .0, s .pre .0 .1), (s .pre .1 .0, (t .fits, t .dhf)))
+    ((s .pre .0 .0, s .pre .0 .1), (s .pre .1 .0, (t .dhf, t .fits)))
 
 returns-2 : tie.Need-returns-2
 returns-2 c =

@@ -23,7 +23,7 @@ near-requires : tie.Need-near-requires Inv-loop μ-loop
 near-requires c κs = search needs
 
 loop-holds : tie.Need-loop-holds Inv-loop μ-loop
-loop-holds c = let s = c .before .before .before .before .before .before .before .before in (stage-start (s .args .n) (s .args .off .now) (s .args .privileged .now) (s .pre .1 .1 .0) (s .pre .1 .1 .1), omega (arith, s .pre .1 .0 .1, s .pre .1 .0 .2))
+loop-holds c = let s = c .before .before .before .before .before .before .before .before in (stage-start (s .args .n) (s .args .off .now) (s .args .privileged .now) (s .pre .1 .1 .1) (s .pre .1 .1 .0), omega (arith, s .pre .1 .0 .1, s .pre .1 .0 .2))
 
 mul-k : tie.Need-mul-k Inv-loop μ-loop
 mul-k c = search needs
