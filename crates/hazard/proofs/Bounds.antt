@@ -8,17 +8,18 @@ use native.Mathlib.Omega.{arith}
 use lib.Dec.{eqb, leb, ltb, lt→ltb}
 use lib.ListN.{length}
 use lib.Pow.{pow-mono}
+use Rattle.hazard.specs.Limits.{mostRequired, mostProducts}
 use Rattle.hazard.specs.Search.{first, firstPlace, firstOf}
 use Rattle.hazard.specs.Cube.{has, span, isProduct}
 use Rattle.hazard.specs.Transition.{value, off, start, end, count, Kind, low, rise, fall, high, kind, functionHazard}
 use Rattle.hazard.specs.Sets.{Required, Privileged, labels, maximalLabel, kindAt, required, privileged}
 use Rattle.hazard.specs.Growth.{Growth, Legal, Blocked, steps, grow}
 use Rattle.hazard.specs.Cover.{Network, productAt}
-use Rattle.hazard.specs.Refusal.{Refusal, refusal, refuseIf, inputChecks, Accepted}
-use Rattle.hazard.specs.Verdict.{products, productsCheck, digitsCheck, verifierChecks, Verdict, refused, fault, verdict, Fields, fieldsOf}
+use Rattle.hazard.specs.Refusal.{Refusal, refusal, productRefusal, refuseIf, inputChecks, Accepted}
+use Rattle.hazard.specs.Verdict.{products, productsCheck, digitsCheck, networkChecks, verifierChecks, Verdict, refused, fault, verdict, Fields, fieldsOf}
 use Rattle.hazard.specs.Minimal.{blockedBy, blockCheck, blocking, minimiserChecks, Minimal}
 use Rattle.hazard.proofs.Test.{no-or}
-use Rattle.hazard.proofs.Search.{none-some, first-some, place-some, those-e, firstOf-none, firstOf-append, firstOf-some}
+use Rattle.hazard.proofs.Search.{none-some, first-some, place-some, those-e, firstOf-none, entries, firstOf-append, firstOf-some}
 use Rattle.hazard.proofs.Rules.{lets, inputs-few, length-whole, list-few, few-inputs, list-length, points, required-few}
 use Rattle.hazard.proofs.Sets.{required-e, required-digits, privileged-e, privileged-wide}
 use Rattle.hazard.proofs.Growth.{Ends, blocked, grow-steps, grow-ends}
@@ -38,7 +39,7 @@ pub record Bounded (most : ℕ) (q : Refusal) : Type 0 where
 pub record BoundedFields (m : Fields) : Type 0 where
   pub number : m .number < 5
   pub refusal : m .refusal < 32
-  pub product : m .product < 2048
+  pub product : m .product < mostProducts
   pub transition : m .transition ≤ 64
   pub point : m .point < 1024
 
@@ -100,8 +101,8 @@ module _ (n : ℕ) (f ts : List ℕ) (accepted : Accepted n f ts) where
           subst (Bounded 1) (Option·some-injective _ _ h)
           (record { number-low = omega arith; number = omega arith; transition = omega (arith, b .0); point = omega (arith, b .1); steps = omega arith; lowest = omega arith; product = omega arith })
 
-  -- A minimal network has at most 2,048 products.
-  pub minimal-few : {net : Network} → Minimal n f ts net → length net ≤ 2048
+  -- A minimal network has no more products than there can be required cubes.
+  pub minimal-few : {net : Network} → Minimal n f ts net → length net ≤ mostRequired
   minimal-few m = omega (arith, m .few, required-few n f ts accepted)
 
 -- For each way to make a check: the refusal that it gives,
@@ -140,7 +141,7 @@ module _ (n : ℕ) (f ts : List ℕ) where
       named p (omega arith) (omega arith) (omega (arith, first-some (λ k. leb (2 ^ n) (start ts k) || leb (2 ^ n) (end ts k)) 0 (count ts) s .1)) (omega arith))) (λ c5.
       next (place-bounds p few all 6 (omega arith) (omega arith) (λ k x. has (span n (start ts k) (end ts k)) x && eqb (value f x) 2)) (λ c6.
       next (place-bounds p few all 7 (omega arith) (omega arith) (λ k x. has (span n (start ts k) (end ts k)) x && functionHazard n f (kind f (start ts k) (end ts k)) (start ts k) (end ts k) x)) (λ c7.
-      next (test-bounds p (ltb 2048 (length (required n f ts))) 8 (omega arith) (omega arith)) (λ c8. tried))))))))
+      next (test-bounds p (ltb mostRequired (length (required n f ts))) 8 (omega arith) (omega arith)) (λ c8. tried))))))))
 
   -- A refusal of the minimiser.
   pub minimiser-bounds : (room : ℕ) {q : Refusal} → firstOf (minimiserChecks n f ts room) ≡ some q → Bounded 1 q
@@ -150,35 +151,35 @@ module _ (n : ℕ) (f ts : List ℕ) where
       next (test-bounds (omega arith) (ltb room (n * length (required n f ts))) 9 (omega arith) (omega arith)) (λ c9. next (blocked-bounds n f ts a) (λ c10. tried)))) e
 
   module _ (bytes : List ℕ) where
-    -- What check 11 lets through has at most 2,048 products.
-    pub products-few : productsCheck n bytes ≡ none → length (products n bytes) ≤ 2048
+    -- What check 11 lets through has no more products than the limit.
+    pub products-few : productsCheck n bytes ≡ none → length (products n bytes) ≤ mostProducts
     products-few e =
-        let t = no-or (not (eqb (length bytes % n) 0)) (ltb 2048 (length bytes / n)) (lets (not (eqb (length bytes % n) 0) || ltb 2048 (length bytes / n)) 11 e) .1 in
-        let h : ¬ (2048 < length bytes / n) = λ l. t (lt→ltb 2048 (length bytes / n) l) in omega (arith, products-length n bytes)
+        let t = no-or (not (eqb (length bytes % n) 0)) (ltb mostProducts (length bytes / n)) (lets (not (eqb (length bytes % n) 0) || ltb mostProducts (length bytes / n)) 11 e) .1 in
+        let h : ¬ (mostProducts < length bytes / n) = λ l. t (lt→ltb mostProducts (length bytes / n) l) in omega (arith, products-length n bytes)
 
     -- A refusal of the verifier.
-    pub verifier-bounds : {q : Refusal} → firstOf (verifierChecks n f ts bytes) ≡ some q → Bounded 2048 q
+    pub verifier-bounds : {q : Refusal} → firstOf (verifierChecks n f ts bytes) ≡ some q → Bounded mostProducts q
     verifier-bounds e =
-        each-first (Bounded 2048)
-        (each-append (Bounded 2048) (input-bounds (omega arith)) (λ a.
-        next (test-bounds (omega arith) (not (eqb (length bytes % n) 0) || ltb 2048 (length bytes / n)) 11 (omega arith) (omega arith)) (λ c11. next (digit c11) (λ c12. tried)))) e
+        each-first (Bounded mostProducts)
+        (each-append (Bounded mostProducts) (input-bounds (omega arith)) (λ a.
+        next (test-bounds (omega arith) (not (eqb (length bytes % n) 0) || ltb mostProducts (length bytes / n)) 11 (omega arith) (omega arith)) (λ c11. next (digit c11) (λ c12. tried)))) e
       where
-        digit : productsCheck n bytes ≡ none → (q : Refusal) → digitsCheck n (products n bytes) ≡ some q → Bounded 2048 q
+        digit : productsCheck n bytes ≡ none → (q : Refusal) → digitsCheck n (products n bytes) ≡ some q → Bounded mostProducts q
         digit c =
-            search-bounds (λ j. record { number = 12; transition = 0; point = 0; steps = 0; lowest = 0; product = j })
+            search-bounds (λ j. productRefusal 12 j)
             (first (λ j. not (isProduct n (productAt (products n bytes) j))) 0 (length (products n bytes))) (λ j s.
-            let b : j < 2048 = omega (arith, first-some (λ j. not (isProduct n (productAt (products n bytes) j))) 0 (length (products n bytes)) s .1, products-few c) in
+            let b : j < mostProducts = omega (arith, first-some (λ j. not (isProduct n (productAt (products n bytes) j))) 0 (length (products n bytes)) s .1, products-few c) in
             record { number-low = omega arith; number = omega arith; transition = omega arith; point = omega arith; steps = omega arith; lowest = omega arith; product = b })
 
     -- Every verdict, of refused input too.
     pub verdict-bounds : BoundedFields (fieldsOf (verdict n f ts bytes))
     verdict-bounds = go (firstOf (verifierChecks n f ts bytes)) refl
       where
-        small : {number product transition point : ℕ} → number < 5 → product < 2048 → transition ≤ 64 → point < 1024
+        small : {number product transition point : ℕ} → number < 5 → product < mostProducts → transition ≤ 64 → point < 1024
             → BoundedFields (record { number = number; refusal = 0; product = product; transition = transition; point = point })
         small a b c d = record { number = a; refusal = omega arith; product = b; transition = c; point = d }
 
-        judged : Accepted n f ts → length (products n bytes) ≤ 2048 → {v : Verdict} → Named n f ts (products n bytes) v → BoundedFields (fieldsOf v)
+        judged : Accepted n f ts → length (products n bytes) ≤ mostProducts → {v : Verdict} → Named n f ts (products n bytes) v → BoundedFields (fieldsOf v)
         judged a l (none-named h) = small (omega arith) (omega arith) (omega arith) (omega arith)
         judged a l (zero-named i x t o h k) = small (omega arith) (omega arith) (omega arith) (omega (arith, points-few (few-inputs n f ts a .1)))
         judged a l (illegal-named {v = v} i m t h k w) = small (omega arith) (omega arith) (omega (arith, privileged-bounds n f ts a v m, list-length n f ts a .2)) (omega arith)
@@ -189,5 +190,5 @@ module _ (n : ℕ) (f ts : List ℕ) where
         go : (o : Option Refusal) → firstOf (verifierChecks n f ts bytes) ≡ o → BoundedFields (fieldsOf (elim o [ some q ↦ refused q | none ↦ fault n f ts (products n bytes) ]))
         go (some q) e = let b = verifier-bounds e in record { number = omega arith; refusal = b .number; product = b .product; transition = b .transition; point = b .point }
         go none e =
-            let rest = firstOf-append (inputChecks n f ts) (productsCheck n bytes ∷ digitsCheck n (products n bytes) ∷ []) .0 e .1 in
-            judged (checked-accepted n f ts bytes e) (products-few (firstOf-none (productsCheck n bytes ∷ digitsCheck n (products n bytes) ∷ []) .0 rest 0)) (fault-named n f ts (products n bytes))
+            let rest = firstOf-append (inputChecks n f ts) (networkChecks n bytes) .0 e .1 in
+            judged (checked-accepted n f ts bytes e) (products-few (firstOf-none (networkChecks n bytes) rest (search entries))) (fault-named n f ts (products n bytes))

@@ -1,4 +1,5 @@
 -- What a check finds has that check's number.
+use mathlib.Core.Logic.{_≢_}
 use mathlib.Core.Path.{_≡_, refl, sym, ap, subst, _∙_}
 use mathlib.Core.Bool.{Bool, true, false, not, _||_}
 use mathlib.Core.List.{List, [], _∷_, _++_}
@@ -6,14 +7,15 @@ use mathlib.Core.Option.{Option, none, some, Option·map, Option·some-injective
 use Prim.Native.Nat.{ℕ, _/_, _%_, _^_, _*_}
 use lib.Dec.{T, eqb, leb, ltb}
 use lib.ListN.{length}
+use Rattle.hazard.specs.Limits.{mostRequired, mostProducts}
 use Rattle.hazard.specs.Search.{first, firstPlace, firstOf}
 use Rattle.hazard.specs.Cube.{isProduct}
 use Rattle.hazard.specs.Transition.{value, off, start, end, count, functionHazardAt, undefinedAt}
 use Rattle.hazard.specs.Sets.{Required, required, privileged}
 use Rattle.hazard.specs.Growth.{Growth, Legal, Blocked, grow}
-use Rattle.hazard.specs.Cover.{productAt}
-use Rattle.hazard.specs.Refusal.{Refusal, refusal, refuseIf, inputChecks}
-use Rattle.hazard.specs.Verdict.{products, verifierChecks}
+use Rattle.hazard.specs.Cover.{Network, productAt}
+use Rattle.hazard.specs.Refusal.{Refusal, refusal, productRefusal, refuseIf, inputsCheck, lengthCheck, bytesCheck, listCheck, endsCheck, definedCheck, rulesCheck, manyCheck, inputChecks}
+use Rattle.hazard.specs.Verdict.{products, productsCheck, digitsCheck, verifierChecks}
 use Rattle.hazard.specs.Minimal.{blockedBy, blockCheck, roomCheck, blocking, minimiserChecks}
 use Rattle.hazard.proofs.Test.{or-l, or-r, eqb-of}
 use Rattle.hazard.proofs.Search.{none-some, firstOf-left, firstOf-right, firstOf-some, firstOf-one}
@@ -39,6 +41,41 @@ block-number n f ts q e = let (r, m, h) = firstOf-some (blockCheck n (off f) (pr
     go : (r : Required) (g : Growth) → blockedBy r g ≡ some q → q .number ≡ 10
     go r (Legal c s) h = none-some h
     go r (Blocked z s) h = sym (ap (λ (x : Refusal). x .number) (Option·some-injective _ _ h))
+
+-- The checks, by their names.
+module _ (n : ℕ) where
+  pub inputs-number : Numbered 1 (inputsCheck n)
+  inputs-number = test-number (eqb n 0 || ltb 10 n) 1
+
+  pub length-number : (f : List ℕ) → Numbered 2 (lengthCheck n f)
+  length-number f = test-number (not (eqb (length f) (2 ^ n))) 2
+
+  pub bytes-number : (f : List ℕ) → Numbered 3 (bytesCheck f)
+  bytes-number f = search-number (λ x. refusal 3 0 x) (λ x. refl) (first (λ x. ltb 2 (value f x)) 0 (length f))
+
+  pub list-number : (ts : List ℕ) → Numbered 4 (listCheck ts)
+  list-number ts = test-number (eqb (length ts) 0 || (eqb (length ts % 2) 1 || ltb 64 (count ts))) 4
+
+  pub ends-number : (ts : List ℕ) → Numbered 5 (endsCheck n ts)
+  ends-number ts = search-number (λ k. refusal 5 k 0) (λ k. refl) (first (λ k. leb (2 ^ n) (start ts k) || leb (2 ^ n) (end ts k)) 0 (count ts))
+
+  pub defined-number : (f ts : List ℕ) → Numbered 6 (definedCheck n f ts)
+  defined-number f ts = search-number (λ p. refusal 6 (p .0) (p .1)) (λ p. refl) (firstPlace (λ k. undefinedAt n f (start ts k) (end ts k)) 0 (count ts))
+
+  pub rules-number : (f ts : List ℕ) → Numbered 7 (rulesCheck n f ts)
+  rules-number f ts = search-number (λ p. refusal 7 (p .0) (p .1)) (λ p. refl) (firstPlace (λ k. functionHazardAt n f (start ts k) (end ts k)) 0 (count ts))
+
+  pub many-number : (f ts : List ℕ) → Numbered 8 (manyCheck n f ts)
+  many-number f ts = test-number (ltb mostRequired (length (required n f ts))) 8
+
+  pub room-number : (f ts : List ℕ) (room : ℕ) → Numbered 9 (roomCheck n f ts room)
+  room-number f ts room = test-number (ltb room (n * length (required n f ts))) 9
+
+  pub products-number : (bytes : List ℕ) → Numbered 11 (productsCheck n bytes)
+  products-number bytes = test-number (not (eqb (length bytes % n) 0) || ltb mostProducts (length bytes / n)) 11
+
+  pub digits-number : (net : Network) → Numbered 12 (digitsCheck n net)
+  digits-number net = search-number (λ j. productRefusal 12 j) (λ j. refl) (first (λ j. not (isProduct n (productAt net j))) 0 (length net))
 
 -- The numbers of a list of checks, one for each, in their order.
 pub data Numbers : List ℕ → List (Option Refusal) → Type 0 where
@@ -69,37 +106,29 @@ later-found {ks} {l} m {q} s t e = go (firstOf l) refl
     go (some p) h = absurd (t (number-listed s (h ∙ sym (firstOf-left l m h) ∙ e)))
 
 module _ (n : ℕ) (f ts : List ℕ) where
-  -- The numbers of the input rules,
-  pub input-numbers : Numbers (1 ∷ 2 ∷ 3 ∷ 4 ∷ 5 ∷ 6 ∷ 7 ∷ 8 ∷ []) (inputChecks n f ts)
+  -- The input rules have numbers, which compute to a list,
+  abbrev pub input-numbers : (ks : List ℕ) × Numbers ks (inputChecks n f ts)
   input-numbers =
-      next (test-number (eqb n 0 || ltb 10 n) 1)
-      (next (test-number (not (eqb (length f) (2 ^ n))) 2)
-      (next (search-number (λ x. refusal 3 0 x) (λ x. refl) (first (λ x. ltb 2 (value f x)) 0 (length f)))
-      (next (test-number (eqb (length ts) 0 || (eqb (length ts % 2) 1 || ltb 64 (count ts))) 4)
-      (next (search-number (λ k. refusal 5 k 0) (λ k. refl) (first (λ k. leb (2 ^ n) (start ts k) || leb (2 ^ n) (end ts k)) 0 (count ts)))
-      (next (search-number (λ p. refusal 6 (p .0) (p .1)) (λ p. refl) (firstPlace (λ k. undefinedAt n f (start ts k) (end ts k)) 0 (count ts)))
-      (next (search-number (λ p. refusal 7 (p .0) (p .1)) (λ p. refl) (firstPlace (λ k. functionHazardAt n f (start ts k) (end ts k)) 0 (count ts)))
-      (next (test-number (ltb 2048 (length (required n f ts))) 8) no-more)))))))
+      (_, next (inputs-number n)
+      (next (length-number n f) (next (bytes-number n f)
+      (next (list-number n ts) (next (ends-number n ts)
+      (next (defined-number n f ts) (next (rules-number n f ts)
+      (next (many-number n f ts) no-more))))))))
 
-  -- of the checks before blocking,
-  pub room-numbers : (room : ℕ) → Numbers (1 ∷ 2 ∷ 3 ∷ 4 ∷ 5 ∷ 6 ∷ 7 ∷ 8 ∷ 9 ∷ []) (inputChecks n f ts ++ (roomCheck n f ts room ∷ []))
-  room-numbers room = numbers-append input-numbers (next (test-number (ltb room (n * length (required n f ts))) 9) no-more)
+  -- and so have the checks before blocking,
+  abbrev pub room-numbers : (room : ℕ) → (ks : List ℕ) × Numbers ks (inputChecks n f ts ++ (roomCheck n f ts room ∷ []))
+  room-numbers room = (_, numbers-append (input-numbers .1) (next (room-number n f ts room) no-more))
 
-  -- of the minimiser's checks,
-  pub minimiser-numbers : (room : ℕ) → Numbers (1 ∷ 2 ∷ 3 ∷ 4 ∷ 5 ∷ 6 ∷ 7 ∷ 8 ∷ 9 ∷ 10 ∷ []) (minimiserChecks n f ts room)
-  minimiser-numbers room = numbers-append (room-numbers room) (next (block-number n f ts) no-more)
+  -- the minimiser's, and the verifier's.
+  abbrev pub minimiser-numbers : (room : ℕ) → (ks : List ℕ) × Numbers ks (minimiserChecks n f ts room)
+  minimiser-numbers room = (_, numbers-append (room-numbers room .1) (next (block-number n f ts) no-more))
 
-  -- and of the verifier's.
-  pub verifier-numbers : (bytes : List ℕ) → Numbers (1 ∷ 2 ∷ 3 ∷ 4 ∷ 5 ∷ 6 ∷ 7 ∷ 8 ∷ 11 ∷ 12 ∷ []) (verifierChecks n f ts bytes)
-  verifier-numbers bytes =
-      numbers-append input-numbers
-      (next (test-number (not (eqb (length bytes % n) 0) || ltb 2048 (length bytes / n)) 11)
-      (next (search-number (λ j. record { number = 12; transition = 0; point = 0; steps = 0; lowest = 0; product = j }) (λ j. refl)
-      (first (λ j. not (isProduct n (productAt (products n bytes) j))) 0 (length (products n bytes)))) no-more))
+  abbrev pub verifier-numbers : (bytes : List ℕ) → (ks : List ℕ) × Numbers ks (verifierChecks n f ts bytes)
+  verifier-numbers bytes = (_, numbers-append (input-numbers .1) (next (products-number n bytes) (next (digits-number n (products n bytes)) no-more)))
 
   -- Refusal 10 comes from blocking alone: the checks before it find nothing.
   pub ten-blocks : (room : ℕ) {q : Refusal} → firstOf (minimiserChecks n f ts room) ≡ some q → q .number ≡ 10
       → (firstOf (inputChecks n f ts ++ (roomCheck n f ts room ∷ [])) ≡ none) × (blocking n f ts ≡ some q)
   ten-blocks room {q} e h =
-      let (a, b) = later-found (blocking n f ts ∷ []) (room-numbers room) (λ t. subst (λ (k : ℕ). T (listed k (1 ∷ 2 ∷ 3 ∷ 4 ∷ 5 ∷ 6 ∷ 7 ∷ 8 ∷ 9 ∷ []))) h t) e in
+      let (a, b) = later-found (blocking n f ts ∷ []) (room-numbers room .1) (λ t. subst (λ (k : ℕ). T (listed k (room-numbers room .0))) h t) e in
       (a, sym (firstOf-one (blocking n f ts)) ∙ b)

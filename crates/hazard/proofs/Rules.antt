@@ -2,20 +2,21 @@
 use mathlib.Core.Path.{_≡_, refl, sym}
 use mathlib.Core.Logic.{_≢_}
 use mathlib.Core.Bool.{Bool, true, false, not, _&&_, _||_}
-use mathlib.Core.List.{List}
-use mathlib.Core.Option.{none, map-eq-none-iff}
+use mathlib.Core.List.{List, List·Memᴰ}
+use mathlib.Core.Option.{Option, none, map-eq-none-iff}
 use Prim.Native.Nat.{ℕ, zero, suc, _+_, _*_, _%_, _^_, _≤_, _<_}
 use native.Mathlib.Omega.{arith}
 use native.Mathlib.Decide.{ℕ-discrete, decLt}
 use lib.Dec.{T, eqb, leb, ltb, le→leb, lt→ltb}
 use lib.ListN.{length, getD, List·getD-eq-default}
+use Rattle.hazard.specs.Limits.{mostRequired}
 use Rattle.hazard.specs.Search.{first, firstPlace}
 use Rattle.hazard.specs.Cube.{has, span}
 use Rattle.hazard.specs.Transition.{value, start, end, count, Kind, low, rise, fall, high, kindOf, functionHazard, functionHazardAt, undefinedAt}
 use Rattle.hazard.specs.Sets.{kindAt, required}
-use Rattle.hazard.specs.Refusal.{refusal, refuseIf, inputsCheck, lengthCheck, listCheck, endsCheck, inputChecks, Accepted}
+use Rattle.hazard.specs.Refusal.{Refusal, refusal, refuseIf, inputsCheck, lengthCheck, listCheck, endsCheck, manyCheck, inputChecks, Accepted}
 use Rattle.hazard.proofs.Test.{tests, T-and, no-or, eqb-of}
-use Rattle.hazard.proofs.Search.{none-some, first-none, place-none, firstOf-none}
+use Rattle.hazard.proofs.Search.{none-some, first-none, place-none, firstOf-none, entries}
 use Rattle.hazard.proofs.Cube.{→has, span-left, span-right}
 
 -- A check that lets the input through.
@@ -53,6 +54,11 @@ ends-within n ts e k l =
     let q : ¬ (2 ^ n ≤ end ts k) = λ h. u .1 (le→leb (2 ^ n) (end ts k) h) in
     (omega arith, omega arith)
 
+pub many-few : (n : ℕ) (f ts : List ℕ) → manyCheck n f ts ≡ none → length (required n f ts) ≤ mostRequired
+many-few n f ts e =
+    let p : ¬ (mostRequired < length (required n f ts)) = λ l. lets (ltb mostRequired (length (required n f ts))) 8 e (lt→ltb mostRequired (length (required n f ts)) l) in
+    omega arith
+
 -- The values at the two ends.
 abbrev pub EndValues : Kind → ℕ → ℕ → Type 0
 EndValues low u v = (u ≡ 0) × (v ≡ 0)
@@ -78,15 +84,15 @@ pub record RulesAt (n : ℕ) (f : List ℕ) (a b : ℕ) (k : Kind) : Type 0 wher
   pub kept : (x : ℕ) → x < 2 ^ n → T (has (span n a b) x) → ¬ T (functionHazard n f k a b x)
 
 module _ (n : ℕ) (f ts : List ℕ) (accepted : Accepted n f ts) where
-  -- Check i, counted from 0, lets it through.
-  passes : (i : ℕ) → getD (inputChecks n f ts) i none ≡ none
-  passes = firstOf-none (inputChecks n f ts) .0 accepted
+  -- Each of the input rules, by its name, lets it through.
+  passes : {o : Option Refusal} → List·Memᴰ o (inputChecks n f ts) → o ≡ none
+  passes = firstOf-none (inputChecks n f ts) accepted
 
   pub few-inputs : (1 ≤ n) × (n ≤ 10)
-  few-inputs = inputs-few n (passes 0)
+  few-inputs = inputs-few n (passes (search entries depth 20))
 
   pub table-length : length f ≡ 2 ^ n
-  table-length = length-whole n f (passes 1)
+  table-length = length-whole n f (passes (search entries depth 20))
 
   pub bytes : (x : ℕ) → value f x ≤ 2
   bytes x = elim (decLt x (length f)) [
@@ -94,36 +100,33 @@ module _ (n : ℕ) (f ts : List ℕ) (accepted : Accepted n f ts) where
     | yes l ↦ elim (decLt 2 (value f x)) [
       | no u ↦ omega arith
       | yes u ↦ absurd (first-none (λ y. ltb 2 (value f y)) 0 (length f)
-          (map-eq-none-iff (λ y. refusal 3 0 y) (first (λ y. ltb 2 (value f y)) 0 (length f)) .0 (passes 2))
+          (map-eq-none-iff (λ y. refusal 3 0 y) (first (λ y. ltb 2 (value f y)) 0 (length f)) .0 (passes (search entries depth 20)))
           x (omega arith) (omega arith) (lt→ltb 2 (value f x) u))
     ]
   ]
 
   pub list-length : (1 ≤ length ts) × (length ts % 2 ≡ 0) × (count ts ≤ 64)
-  list-length = list-few ts (passes 3)
+  list-length = list-few ts (passes (search entries depth 20))
 
   pub points : (k : ℕ) → k < count ts → (start ts k < 2 ^ n) × (end ts k < 2 ^ n)
-  points = ends-within n ts (passes 4)
+  points = ends-within n ts (passes (search entries depth 20))
 
   all-defined : (k : ℕ) → k < count ts → undefinedAt n f (start ts k) (end ts k) ≡ none
   all-defined k l =
       place-none (λ j. undefinedAt n f (start ts j) (end ts j)) 0 (count ts) .0
       (map-eq-none-iff (λ p. refusal 6 (p .0) (p .1)) (firstPlace (λ j. undefinedAt n f (start ts j) (end ts j)) 0 (count ts)) .0
-      (passes 5))
+      (passes (search entries depth 20)))
       k (omega arith) (omega arith)
 
   all-kept : (k : ℕ) → k < count ts → functionHazardAt n f (start ts k) (end ts k) ≡ none
   all-kept k l =
       place-none (λ j. functionHazardAt n f (start ts j) (end ts j)) 0 (count ts) .0
       (map-eq-none-iff (λ p. refusal 7 (p .0) (p .1)) (firstPlace (λ j. functionHazardAt n f (start ts j) (end ts j)) 0 (count ts)) .0
-      (passes 6))
+      (passes (search entries depth 20)))
       k (omega arith) (omega arith)
 
-  pub required-few : length (required n f ts) ≤ 2048
-  required-few =
-      let t = lets (ltb 2048 (length (required n f ts))) 8
-      (passes 7) in
-      let p : ¬ (2048 < length (required n f ts)) = λ l. t (lt→ltb 2048 (length (required n f ts)) l) in omega arith
+  pub required-few : length (required n f ts) ≤ mostRequired
+  required-few = many-few n f ts (passes (search entries depth 20))
 
   pub rules-at : (k : ℕ) → k < count ts → RulesAt n f (start ts k) (end ts k) (kindAt f ts k)
   rules-at k l =

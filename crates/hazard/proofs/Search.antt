@@ -158,15 +158,17 @@ place-some look from size {p} e = go (subst (Place look from size) e (place-is l
     go : Place look from size (some p) → (from ≤ p .0) × (p .0 < from + size) × (look (p .0) ≡ some (p .1))
     go (placed l m h i) = (l, m, h)
 
--- A list of searches finds nothing exactly where none of them does.
-pub firstOf-none : {A : Type 0} (l : List (Option A)) → (firstOf l ≡ none) ↔ ((i : ℕ) → getD l i none ≡ none)
-firstOf-none [] = (λ e i. refl, λ h. refl)
-firstOf-none {A} (o ∷ l) = go o (firstOf-none l)
-  where
-    go : (o : Option A) → (firstOf l ≡ none) ↔ ((i : ℕ) → getD l i none ≡ none)
-        → (_≡_ {A = Option A} (elim o [ some a ↦ some a | none ↦ firstOf l ]) none) ↔ ((i : ℕ) → getD (o ∷ l) i none ≡ none)
-    go none next = (λ e. elim [ zero ↦ refl | suc i ↦ next .0 e i ], λ h. next .1 (λ i. h (suc i)))
-    go (some a) next = (λ e. none-some (sym e), λ h. none-some (sym (h 0)))
+-- Where a list of searches finds nothing, none of them does.
+pub firstOf-none : {A : Type 0} (l : List (Option A)) {o : Option A} → firstOf l ≡ none → List·Memᴰ o l → o ≡ none
+firstOf-none [] e m = absurd (List·Memᴰ·not-nil m)
+firstOf-none (none ∷ l) e m = elim (List·Memᴰ·cases-cons m) [ inl h ↦ h | inr t ↦ firstOf-none l e t ]
+firstOf-none (some a ∷ l) e m = none-some (sym e)
+
+-- The place of an entry that a list names is found by `search entries`.
+pub here : {A : Type 0} {a : A} {l : List A} → List·Memᴰ a (a ∷ l)
+here = List·Memᴰ·head refl
+
+pub ruleset entries = (here, List·Memᴰ·tail)
 
 pub firstOf-one : {A : Type 0} (o : Option A) → firstOf (o ∷ []) ≡ o
 firstOf-one none = refl

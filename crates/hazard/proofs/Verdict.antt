@@ -15,10 +15,10 @@ use Rattle.hazard.specs.Sets.{Required, Privileged, required, privileged
 use Rattle.hazard.specs.Implicant.{illegal, lowestZero}
 use Rattle.hazard.specs.Cover.{Network, productAt, WellFormed, covered, HazardFreeCover}
 use Rattle.hazard.specs.HazardFree.{HazardFree}
-use Rattle.hazard.specs.Refusal.{Refusal, inputChecks, Accepted}
-use Rattle.hazard.specs.Verdict.{cut, products, productsCheck, digitsCheck, verifierChecks, Verdict, refused, passed, holdsZero, intersects, uncovered, faultA, faultC, faultB, firstFault, fault, verdict, Verified, fieldsOf}
+use Rattle.hazard.specs.Refusal.{Refusal, productRefusal, inputChecks, Accepted}
+use Rattle.hazard.specs.Verdict.{cut, products, networkChecks, verifierChecks, Verdict, refused, passed, holdsZero, intersects, uncovered, faultA, faultC, faultB, firstFault, fault, verdict, Verified, fieldsOf}
 use Rattle.hazard.proofs.Test.{T-and, sure}
-use Rattle.hazard.proofs.Search.{none-some, first-none, none-first, find-none, place-none, firstOf-none, firstOf-append, First, lowest, first-is, Find, hit, find-is, Earlier, Place, placed, place-is}
+use Rattle.hazard.proofs.Search.{none-some, first-none, none-first, find-none, place-none, firstOf-none, entries, firstOf-append, First, lowest, first-is, Find, hit, find-is, Earlier, Place, placed, place-is}
 use Rattle.hazard.proofs.Network.{entry-at, at-places}
 use Rattle.hazard.proofs.Theorem.{cover-hazard-free}
 
@@ -161,19 +161,15 @@ module _ (n : ℕ) (f ts bytes : List ℕ) where
   abbrev pub Checked : Type 0
   Checked = firstOf (verifierChecks n f ts bytes) ≡ none
 
-  -- The checks after the input rules.
-  abbrev rest : List (Option Refusal)
-  rest = productsCheck n bytes ∷ digitsCheck n (products n bytes) ∷ []
-
   -- What the verifier's checks let through is an accepted table, with a network.
   pub checked-accepted : Checked → Accepted n f ts
-  checked-accepted e = firstOf-append (inputChecks n f ts) rest .0 e .0
+  checked-accepted e = firstOf-append (inputChecks n f ts) (networkChecks n bytes) .0 e .0
 
   pub checked-well-formed : Checked → WellFormed n (products n bytes)
   checked-well-formed e = at-places (λ (p : Cube). T (isProduct n p)) (products n bytes) (λ j l.
       sure (isProduct n (productAt (products n bytes) j)) (first-none (λ i. not (isProduct n (productAt (products n bytes) i))) 0 (length (products n bytes))
-      (map-eq-none-iff (λ i. record { number = 12; transition = 0; point = 0; steps = 0; lowest = 0; product = i }) (first (λ i. not (isProduct n (productAt (products n bytes) i))) 0 (length (products n bytes))) .0
-      (firstOf-none rest .0 (firstOf-append (inputChecks n f ts) rest .0 e .1) 1)) j (omega arith) (omega arith)))
+      (map-eq-none-iff (λ i. productRefusal 12 i) (first (λ i. not (isProduct n (productAt (products n bytes) i))) 0 (length (products n bytes))) .0
+      (firstOf-none (networkChecks n bytes) (firstOf-append (inputChecks n f ts) (networkChecks n bytes) .0 e .1) (search entries))) j (omega arith) (omega arith)))
 
   -- The verdict is `passed` exactly if the checks refuse nothing and the network is hazard-free.
   pub verdict-passed : (verdict n f ts bytes ≡ passed) ↔ (Checked × HazardFree n f ts (products n bytes))

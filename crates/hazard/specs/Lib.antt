@@ -1,4 +1,5 @@
 -- The definitions that a reader must believe, in reading order. Nothing here is a proof: the laws stand in proofs/.
+pub mod Limits
 pub mod Search
 pub mod Cube
 pub mod Transition

@@ -15,12 +15,12 @@ use Rattle.hazard.specs.Implicant.{dhfImplicant, DhfPrime, StrictlyInsid
 use Rattle.hazard.specs.Growth.{Growth, Legal, Blocked, Grown, grow}
 use Rattle.hazard.specs.Cover.{Network, WellFormed, without, HazardFreeCover}
 use Rattle.hazard.specs.HazardFree.{HazardFree}
-use Rattle.hazard.specs.Refusal.{Refusal, refuseIf, inputChecks}
+use Rattle.hazard.specs.Refusal.{Refusal, growthRefusal, refuseIf, inputChecks}
 
 -- 10: the growth of a required cube ends blocked; the cube's transition and label, the steps of its growth, and the zero that it ends at.
 abbrev pub blockedBy : Required → Growth → Option Refusal
 blockedBy r (Legal c s) = none
-blockedBy r (Blocked z s) = some (record { number = 10; transition = r .transition; point = r .label; steps = s; lowest = z; product = 0 })
+blockedBy r (Blocked z s) = some (growthRefusal 10 (r .transition) (r .label) s z)
 
 -- The check of one required cube: whether it blocks.
 abbrev pub blockCheck : ℕ → (ℕ → Bool) → List Privileged → Required → Option Refusal

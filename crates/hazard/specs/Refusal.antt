@@ -1,11 +1,12 @@
 -- What goes back when work is declined, and the input rules: checks 1 to 8.
 use mathlib.Core.Path.{_≡_}
 use mathlib.Core.Bool.{Bool, cond, not, _||_}
-use mathlib.Core.List.{List, [], _∷_}
+use mathlib.Core.List.{List, [], _∷_, _++_}
 use mathlib.Core.Option.{Option, none, some, Option·map}
 use Prim.Native.Nat.{ℕ, _%_, _^_}
 use lib.Dec.{eqb, leb, ltb}
 use lib.ListN.{length}
+use Rattle.hazard.specs.Limits.{mostRequired}
 use Rattle.hazard.specs.Search.{first, firstPlace, firstOf}
 use Rattle.hazard.specs.Transition.{value, start, end, count, functionHazardAt, undefinedAt}
 use Rattle.hazard.specs.Sets.{required}
@@ -21,9 +22,21 @@ pub record Refusal : Type 0 where
   pub lowest : ℕ
   pub product : ℕ
 
--- A refusal with a number, a transition and a point.
+-- Every refusal is made here: number, transition, point, steps, lowest zero, product.
+abbrev pub refusalWith : ℕ → ℕ → ℕ → ℕ → ℕ → ℕ → Refusal
+refusalWith number k x s z j = record { number = number; transition = k; point = x; steps = s; lowest = z; product = j }
+
+-- The three shapes: with a transition and a point,
 abbrev pub refusal : ℕ → ℕ → ℕ → Refusal
-refusal number k x = record { number = number; transition = k; point = x; steps = 0; lowest = 0; product = 0 }
+refusal number k x = refusalWith number k x 0 0 0
+
+-- with a transition and a label, and the steps of a growth and the zero that it ends at,
+abbrev pub growthRefusal : ℕ → ℕ → ℕ → ℕ → ℕ → Refusal
+growthRefusal number k x s z = refusalWith number k x s z 0
+
+-- and with a product.
+abbrev pub productRefusal : ℕ → ℕ → Refusal
+productRefusal number j = refusalWith number 0 0 0 0 j
 
 -- A check finds a refusal or nothing. This one refuses, with a bare number, where the test holds.
 abbrev pub refuseIf : Bool → ℕ → Option Refusal
@@ -57,22 +70,25 @@ definedCheck n f ts = Option·map (λ p. refusal 6 (p .0) (p .1)) (firstPlace (�
 abbrev pub rulesCheck : ℕ → List ℕ → List ℕ → Option Refusal
 rulesCheck n f ts = Option·map (λ p. refusal 7 (p .0) (p .1)) (firstPlace (λ k. functionHazardAt n f (start ts k) (end ts k)) 0 (count ts))
 
--- 8: more than 2,048 required cubes.
+-- 8: more required cubes than the limit.
 abbrev pub manyCheck : ℕ → List ℕ → List ℕ → Option Refusal
-manyCheck n f ts = refuseIf (ltb 2048 (length (required n f ts))) 8
+manyCheck n f ts = refuseIf (ltb mostRequired (length (required n f ts))) 8
+
+-- The checks come in runs, between which a call can put its own: of the table,
+abbrev pub tableChecks : ℕ → List ℕ → List (Option Refusal)
+tableChecks n f = lengthCheck n f ∷ bytesCheck f ∷ []
+
+-- of the list of transitions,
+abbrev pub listChecks : ℕ → List ℕ → List (Option Refusal)
+listChecks n ts = listCheck ts ∷ endsCheck n ts ∷ []
+
+-- and of the table under the transitions.
+abbrev pub pointsChecks : ℕ → List ℕ → List ℕ → List (Option Refusal)
+pointsChecks n f ts = definedCheck n f ts ∷ rulesCheck n f ts ∷ []
 
 -- The input rules, in their order.
 abbrev pub inputChecks : ℕ → List ℕ → List ℕ → List (Option Refusal)
-inputChecks n f ts =
-    inputsCheck n
-    ∷ lengthCheck n f
-    ∷ bytesCheck f
-    ∷ listCheck ts
-    ∷ endsCheck n ts
-    ∷ definedCheck n f ts
-    ∷ rulesCheck n f ts
-    ∷ manyCheck n f ts
-    ∷ []
+inputChecks n f ts = (inputsCheck n ∷ []) ++ (tableChecks n f ++ (listChecks n ts ++ (pointsChecks n f ts ++ (manyCheck n f ts ∷ []))))
 
 -- The input rules hold.
 abbrev pub Accepted : ℕ → List ℕ → List ℕ → Type 0

@@ -7,6 +7,7 @@ use mathlib.Core.Option.{Option, none, some, Option·map}
 use Prim.Native.Nat.{ℕ, zero, suc, _/_, _%_}
 use lib.Dec.{eqb, ltb}
 use lib.ListN.{length, take, drop}
+use Rattle.hazard.specs.Limits.{mostProducts}
 use Rattle.hazard.specs.Search.{first, firstPlace, find, firstOf}
 use Rattle.hazard.specs.Cube.{isProduct}
 use Rattle.hazard.specs.Transition.{off}
@@ -14,7 +15,7 @@ use Rattle.hazard.specs.Sets.{Required, Privileged, required, privileged
 use Rattle.hazard.specs.Implicant.{illegal, lowestZero}
 use Rattle.hazard.specs.Cover.{Network, productAt, covered, HazardFreeCover}
 use Rattle.hazard.specs.HazardFree.{HazardFree}
-use Rattle.hazard.specs.Refusal.{Refusal, refuseIf, inputChecks}
+use Rattle.hazard.specs.Refusal.{Refusal, productRefusal, refuseIf, inputChecks}
 
 -- A network's bytes, cut into count products of n.
 abbrev pub cut : ℕ → ℕ → List ℕ → Network
@@ -25,19 +26,21 @@ cut n (suc count) bytes = take n bytes ∷ cut n count (drop n bytes)
 abbrev pub products : ℕ → List ℕ → Network
 products n bytes = cut n (length bytes / n) bytes
 
--- 11: the length is no multiple of n, or there are more than 2,048 products.
+-- 11: the length is no multiple of n, or there are more products than the limit.
 abbrev pub productsCheck : ℕ → List ℕ → Option Refusal
-productsCheck n bytes = refuseIf (not (eqb (length bytes % n) 0) || ltb 2048 (length bytes / n)) 11
+productsCheck n bytes = refuseIf (not (eqb (length bytes % n) 0) || ltb mostProducts (length bytes / n)) 11
 
 -- 12: a byte above 2; the first such product.
 abbrev pub digitsCheck : ℕ → Network → Option Refusal
-digitsCheck n net =
-    Option·map (λ j. record { number = 12; transition = 0; point = 0; steps = 0; lowest = 0; product = j })
-    (first (λ j. not (isProduct n (productAt net j))) 0 (length net))
+digitsCheck n net = Option·map (λ j. productRefusal 12 j) (first (λ j. not (isProduct n (productAt net j))) 0 (length net))
+
+-- The checks of a network.
+abbrev pub networkChecks : ℕ → List ℕ → List (Option Refusal)
+networkChecks n bytes = productsCheck n bytes ∷ digitsCheck n (products n bytes) ∷ []
 
 -- The verifier's checks, in their order.
 abbrev pub verifierChecks : ℕ → List ℕ → List ℕ → List ℕ → List (Option Refusal)
-verifierChecks n f ts bytes = inputChecks n f ts ++ (productsCheck n bytes ∷ digitsCheck n (products n bytes) ∷ [])
+verifierChecks n f ts bytes = inputChecks n f ts ++ networkChecks n bytes
 
 -- The verdict, with what it names.
 pub data Verdict : Type 0 where
