@@ -2,4 +2,3 @@ pub mod Growing
 pub mod Illegal
 pub mod Outcome
 pub mod Raising
-pub mod Ready

@@ -1,15 +1,15 @@
 // Supercube-dhf: a cube grown until it is legal or blocked.
 ghost use Rattle.cube.specs.Mask.{cubeOf, Clean};
-ghost use Rattle.expand.specs.Ready.{Ready};
+ghost use Rattle.points.specs.Ready.{Ready};
 ghost use Rattle.expand.specs.Columns.{Columns};
 ghost use Rattle.expand.specs.Answer.{Grows};
 use crate::meeting::Met;
 use crate::meeting::first_illegal;
-use crate::zero::lowest_zero;
 use cube::entry::point_in;
 use cube::mask::Cube;
 use cube::mask::joined;
-use problem::scan::Found;
+use points::lowest::Found;
+use points::lowest::lowest_in;
 
 // How growth ends: legal, with the cube and the steps taken, or blocked, with the lowest zero and the steps taken.
 pub enum Grown {
@@ -28,7 +28,7 @@ pub fn grow(n: usize, off: &[u64], privileged: &[u64], columns: &[u64], c: Cube)
     let mut cube = c;
     let mut steps: u16 = 0;
     while (steps as usize) < n {
-        if let Found::At(z) = lowest_zero(n, off, cube) {
+        if let Found::At(z) = lowest_in(n, off, cube) {
             return Grown::Blocked(z, steps);
         }
         let Met::At(w) = first_illegal(n, privileged, columns, cube) else {
@@ -37,7 +37,7 @@ pub fn grow(n: usize, off: &[u64], privileged: &[u64], columns: &[u64], c: Cube)
         cube = joined(cube, point_in(w));
         steps += 1;
     }
-    match lowest_zero(n, off, cube) {
+    match lowest_in(n, off, cube) {
         Found::At(z) => Grown::Blocked(z, steps),
         Found::Nothing => Grown::Legal(cube, steps),
     }

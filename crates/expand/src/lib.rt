@@ -3,4 +3,3 @@ pub mod blocking;
 pub mod growth;
 pub mod meeting;
 pub mod prime;
-pub mod zero;

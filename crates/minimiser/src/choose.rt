@@ -3,7 +3,7 @@ ghost use mathlib.Core.Path.{_≡_};
 ghost use Prim.Native.Nat.{ℕ, _*_, _≤_, _<_};
 ghost use lib.ListN.{length, getD};
 ghost use Rattle.cube.specs.Entry.{CleanWord};
-ghost use Rattle.expand.specs.Ready.{Ready};
+ghost use Rattle.points.specs.Ready.{Ready};
 ghost use Rattle.expand.specs.Columns.{Columns};
 ghost use Rattle.choice.specs.Rows.{Inside};
 ghost use Rattle.minimiser.specs.Choose.{Choice};

@@ -8,7 +8,7 @@ ghost use Rattle.hazard.specs.Implicant.{dhfImplicant};
 ghost use Rattle.cube.specs.Mask.{cubeOf, Clean};
 ghost use Rattle.cube.specs.Entry.{privilegedIn, CleanWord};
 ghost use Rattle.cube.specs.PointSet.{inSet};
-ghost use Rattle.expand.specs.Ready.{Ready};
+ghost use Rattle.points.specs.Ready.{Ready};
 ghost use Rattle.expand.specs.Columns.{Columns};
 ghost use Rattle.minimiser.specs.Product.{Over, PrimeOver, MadeFor};
 use crate::near::near;

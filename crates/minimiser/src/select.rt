@@ -5,7 +5,7 @@ ghost use Prim.Native.Nat.{ℕ, _*_, _≤_};
 ghost use lib.ListN.{length, getD};
 ghost use Rattle.cube.specs.Entry.{requiredIn, privilegedIn, CleanWord};
 ghost use Rattle.cube.specs.PointSet.{inSet};
-ghost use Rattle.expand.specs.Ready.{Ready};
+ghost use Rattle.points.specs.Ready.{Ready};
 ghost use Rattle.expand.specs.Columns.{Columns};
 ghost use Rattle.choice.specs.Rows.{Inside};
 ghost use Rattle.minimiser.specs.Answer.{minimisedOf, Answered};

@@ -3,5 +3,6 @@ pub mod FurtherWord
 pub mod TurnWord
 pub mod Walk
 pub mod Agree
+pub mod Ready
 pub mod Members
 pub mod Movement

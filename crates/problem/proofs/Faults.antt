@@ -9,6 +9,7 @@ use lib.ListN.{length}
 use Rattle.hazard.specs.Search.{first}
 use Rattle.hazard.specs.Cube.{has, span}
 use Rattle.hazard.specs.Transition.{Kind, low, rise, fall, high, kind, value, functionHazard, functionHazardAt, undefinedAt}
+use Rattle.hazard.specs.Implicant.{lowestZero}
 use Rattle.cube.specs.PointSet.{inSet}
 use Rattle.points.specs.PointWord.{PointsOf}
 use Rattle.points.specs.Plane.{Plane}
@@ -43,5 +44,5 @@ module _ (n : ℕ) {f : List ℕ} (e : length f ≡ 2 ^ n) (a b : ℕ) where
       found-same n a b (breaksIn n (inSet zeros) (inSet ones) k a b) (functionHazard n f k a b) (rule-agrees k p q)
       ∙ ap (λ (j : Kind). first (λ x. has (span n a b) x && functionHazard n f j a b x) 0 (2 ^ n)) h
 
-  pub undefined-is : {twos : List ℕ} → Plane f 2 twos → brokenIn n (inSet twos) (inSet twos) low a b ≡ undefinedAt n f a b
+  pub undefined-is : {twos : List ℕ} → Plane f 2 twos → lowestZero n (inSet twos) (span n a b) ≡ undefinedAt n f a b
   undefined-is {twos} p = found-same n a b (inSet twos) (λ x. eqb (value f x) 2) (plane-agrees n e p)

@@ -16,10 +16,10 @@ use crate::refusal::Checked;
 use crate::refusal::Refusal;
 use crate::refusal::refuse;
 use crate::required::count_by;
-use crate::scan::Found;
 use crate::scan::fault_at;
 use crate::transition::end_of;
 use crate::transition::start_of;
+use points::lowest::Found;
 use points::plane::plane_into;
 
 // What the input rules say: how many required cubes there are, or a refusal.

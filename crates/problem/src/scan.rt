@@ -7,7 +7,8 @@ ghost use Rattle.cube.specs.PointSet.{inSet};
 ghost use Rattle.points.specs.PointWord.{WordOf, PointsOf};
 ghost use Rattle.points.specs.Plane.{Planes};
 ghost use Rattle.points.specs.Turn.{masked};
-ghost use Rattle.problem.specs.Codes.{kindIs, foundOf};
+ghost use Rattle.points.specs.Found.{foundOf};
+ghost use Rattle.problem.specs.Codes.{kindIs};
 ghost use Rattle.problem.specs.Fault.{faultAt, breaksIn, brokenIn};
 use crate::kind::Kind;
 use crate::kind::kind_of;
@@ -15,14 +16,10 @@ use cube::mask::span_of;
 use cube::point::next;
 use cube::word_mask::low_mask;
 use cube::word_mask::word_cube;
+use points::lowest::Found;
+use points::lowest::lowest_in;
 use points::turn::set_points;
 use points::turn::turning_points;
-
-// What a search says.
-pub enum Found {
-    At(u16),
-    Nothing,
-}
 
 // The points of word w, under the mask, where the rule of the kind is broken: the wrong value (static), or the point before the wrong move
 // (dynamic).
@@ -68,7 +65,7 @@ fn lowest_broken(n: usize, k: Kind, zeros: &[u64], ones: &[u64], a: u16, b: u16)
     Found::Nothing
 }
 
-// What check 6 finds in a transition cube, or check 7. A don't care is looked for as a 1 that breaks the rule of static low.
+// What check 6 finds in a transition cube, or check 7.
 pub fn fault_at(
     number: u16,
     n: usize,
@@ -84,7 +81,7 @@ pub fn fault_at(
     ensures { λ r. ⌜ foundOf r ≡ faultAt number n (now (table .entry)) a b ⌝ }
 {
     if number == 6 {
-        return lowest_broken(n, Kind::Low, twos, twos, a, b);
+        return lowest_in(n, twos, span_of(n, a, b));
     }
     lowest_broken(n, kind_of(table, a, b), zeros, ones, a, b)
 }

@@ -7,7 +7,7 @@ ghost use Rattle.hazard.specs.Verdict as spec;
 ghost use Rattle.cube.specs.Entry.{requiredIn, privilegedIn, CleanWord};
 ghost use Rattle.cube.specs.PointSet.{inSet};
 ghost use Rattle.expand.specs.Columns.{Columns};
-ghost use Rattle.expand.specs.Ready.{Ready};
+ghost use Rattle.points.specs.Ready.{Ready};
 ghost use Rattle.choice.specs.Network.{networkIn};
 ghost use Rattle.choice.specs.Rows.{Containing};
 ghost use Rattle.verifier.specs.Answer.{placeOf, unmetOf, verdictOf};
@@ -17,9 +17,9 @@ use cube::entry::point_in;
 use cube::entry::transition_in;
 use expand::meeting::Met;
 use expand::meeting::first_illegal;
-use expand::zero::lowest_zero;
+use points::lowest::Found;
+use points::lowest::lowest_in;
 use problem::refusal::Refusal;
-use problem::scan::Found;
 
 // A product with a point or a transition, or none.
 pub enum Place {
@@ -41,7 +41,7 @@ fn fault_a(n: usize, off: &[u64], products: &[u64]) -> Place
 {
     let mut j = 0;
     while j < products.len() {
-        if let Found::At(z) = lowest_zero(n, off, cube_in(products[j])) {
+        if let Found::At(z) = lowest_in(n, off, cube_in(products[j])) {
             return Place::At(j as u16, z);
         }
         j += 1;

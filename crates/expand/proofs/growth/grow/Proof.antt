@@ -9,7 +9,7 @@ use Rattle.hazard.specs.Growth.{grow}
 use Rattle.cube.specs.Mask.{cubeOf, Clean}
 use Rattle.cube.specs.Entry.{privilegedIn}
 use Rattle.cube.specs.PointSet.{inSet}
-use Rattle.problem.specs.Codes.{foundOf}
+use Rattle.points.specs.Found.{foundOf}
 use Rattle.expand.specs.Answer.{metOf}
 use Rattle.expand.proofs.Growing.{Growing, growing-start, growing-blocked, growing-legal, growing-step, growing-end}
 use Rattle.expand.proofs.growth.grow.Statement.{statement}
@@ -27,8 +27,8 @@ loop-holds c = (search needs, growing-start _ _ _ _)
 cast-loop : tie.Need-cast-loop Inv-loop μ-loop
 cast-loop c = search needs
 
-lowest-zero-requires : tie.Need-lowest-zero-requires Inv-loop μ-loop
-lowest-zero-requires c κs = search needs
+lowest-in-requires : tie.Need-lowest-in-requires Inv-loop μ-loop
+lowest-in-requires c κs = search needs
 
 enum-known-z : tie.Need-enum-known-z Inv-loop μ-loop
 enum-known-z c = search needs
@@ -36,7 +36,7 @@ enum-known-z c = search needs
 returns : tie.Need-returns Inv-loop μ-loop
 returns c =
     let l = c .before .before .before .before .before .loop in
-    record { is = growing-blocked (l .inv .1) (sym (c .before .before .before .lowest-zero .ensures) ∙ ap foundOf (c .before .z .given .1)); few = omega arith; clean = tt }
+    record { is = growing-blocked (l .inv .1) (sym (c .before .before .before .lowest-in .ensures) ∙ ap foundOf (c .before .z .given .1)); few = omega arith; clean = tt }
 
 enum-told : tie.Need-enum-told Inv-loop μ-loop
 enum-told c = search needs
@@ -53,7 +53,7 @@ enum-told-2 c = search needs
 -- The cube has no zero.
 no-zero : (c : tie.After-enum-told Inv-loop μ-loop)
     → let a = c .before .before .before .before .before .before .before .before .args in lowestZero (a .n) (inSet (a .off .now)) (cubeOf (a .n) (c .before .before .before .before .loop .cube)) ≡ none
-no-zero c = sym (c .before .before .lowest-zero .ensures) ∙ ap foundOf (c .enum-told .given .1)
+no-zero c = sym (c .before .before .lowest-in .ensures) ∙ ap foundOf (c .enum-told .given .1)
 
 returns-2 : tie.Need-returns-2 Inv-loop μ-loop
 returns-2 c =
@@ -85,8 +85,8 @@ loop-again c =
     let met = sym (c .before .before .before .before .before .first-illegal .ensures) ∙ ap (metOf n) (c .before .before .before .w .given .1) in
     (j .fits, rw (j .is, c .before .point-in .ensures) (growing-step (l .inv .1) (omega arith) (no-zero (c .before .before .before .before .before .before)) met))
 
-lowest-zero-requires-2 : tie.Need-lowest-zero-requires-2 Inv-loop μ-loop
-lowest-zero-requires-2 c κs = search needs
+lowest-in-requires-2 : tie.Need-lowest-in-requires-2 Inv-loop μ-loop
+lowest-in-requires-2 c κs = search needs
 
 enum-known-z-2 : tie.Need-enum-known-z-2 Inv-loop μ-loop
 enum-known-z-2 c = search needs
@@ -97,12 +97,12 @@ enum-told-3 c = search needs
 returns-3 : tie.Need-returns-3 Inv-loop μ-loop
 returns-3 c =
     let l = c .before .before .before .before .before .loop in
-    record { is = growing-blocked (l .inv .1) (sym (c .before .before .before .lowest-zero2 .ensures) ∙ ap foundOf (c .before .z2 .given .1)); few = omega arith; clean = tt }
+    record { is = growing-blocked (l .inv .1) (sym (c .before .before .before .lowest-in2 .ensures) ∙ ap foundOf (c .before .z2 .given .1)); few = omega arith; clean = tt }
 
 returns-4 : tie.Need-returns-4 Inv-loop μ-loop
 returns-4 c =
     let l = c .before .before .before .before .loop in
-    record { is = growing-end (l .inv .1) (omega arith) (sym (c .before .before .lowest-zero2 .ensures) ∙ ap foundOf (c .enum-told3 .given .1)); few = omega arith; clean = l .inv .0 }
+    record { is = growing-end (l .inv .1) (omega arith) (sym (c .before .before .lowest-in2 .ensures) ∙ ap foundOf (c .enum-told3 .given .1)); few = omega arith; clean = l .inv .0 }
 
 pub grow-spec : {M : Type 1} → statement M
 grow-spec =
@@ -112,7 +112,7 @@ grow-spec =
     μ-loop
     loop-holds
     cast-loop
-    lowest-zero-requires
+    lowest-in-requires
     enum-known-z
     returns
     enum-told
@@ -125,7 +125,7 @@ grow-spec =
     add-steps
     loop-less
     loop-again
-    lowest-zero-requires-2
+    lowest-in-requires-2
     enum-known-z-2
     enum-told-3
     returns-3

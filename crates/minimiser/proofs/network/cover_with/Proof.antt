@@ -1,6 +1,6 @@
 use Rattle.minimiser.proofs.Answering.{required-length, required-fits, required-room, answered-sets}
 use Rattle.minimiser.proofs.Rooms.{part-size, part-low, part-notes, part-places, sets-low, sets-part}
-use Rattle.expand.proofs.Ready.{off-ready}
+use Rattle.points.proofs.Ready.{words-ready}
 use Rattle.problem.proofs.Parts.{parts}
 use lib.ListN.{length, length-take}
 use native.Mathlib.Omega.{arith}
@@ -111,7 +111,7 @@ select-requires c κs =
     let r = o .result .required - 0 in
     let l : r ≤ length (o .last .1 .1 .1 .1 .1 .1 .0) = omega (arith, o .ensures .1, o .kept .1 .1 .1 .1 .1 .1 .0) in
     let e = required-length h in (
-      (off-ready (s .pre .0 .0 .small) (s .pre .1 .0 .long), c .before .before .before .before .before .before .before .before .before .before .before .before .before .before .before .before .before .before .before .columns-into .ensures, required-fits h (s .pre .0 .1), part-notes (s .pre .1 .4) r (o .last .1 .1 .1 .1 .1 .1 .0) e l, part-places (s .pre .1 .4) r (o .last .1 .1 .1 .1 .1 .1 .0) e l, required-room h (s .pre .0 .2)),
+      (words-ready (s .pre .0 .0 .small) (s .pre .1 .0 .long), c .before .before .before .before .before .before .before .before .before .before .before .before .before .before .before .before .before .before .before .columns-into .ensures, required-fits h (s .pre .0 .1), part-notes (s .pre .1 .4) r (o .last .1 .1 .1 .1 .1 .1 .0) e l, part-places (s .pre .1 .4) r (o .last .1 .1 .1 .1 .1 .1 .0) e l, required-room h (s .pre .0 .2)),
       (let z = sets-part (o .result .required) _ (s .pre .1 .5) (part-size (s .pre .1 .4) (o .result .required) (o .last .1 .1 .1 .1 .1 .1 .0) (required-length (o .ensures .2)) (omega (arith, o .ensures .1, o .kept .1 .1 .1 .1 .1 .1 .0))) e in (c .before .before .before .before .before .before .before .before .before .before .before .before .before .blocks-into .ensures, z .0, z .1, z .2), h .clean),
     )
 

@@ -7,7 +7,7 @@ use Rattle.hazard.specs.Transition as spec
 use Rattle.hazard.specs.Transition.{start, end}
 use Rattle.hazard.specs.Refusal.{refusal}
 use Rattle.cube.proofs.Scan.{Places, places-start, places-hit, places-miss, places-end}
-use Rattle.problem.specs.Codes.{foundOf}
+use Rattle.points.specs.Found.{foundOf}
 use Rattle.problem.specs.Fault.{faultAt}
 use borrow.Author.Needs.{needs}
 use Rattle.problem.proofs.check.check_points.Statement.{statement}

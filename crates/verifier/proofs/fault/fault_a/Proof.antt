@@ -9,7 +9,7 @@ use Rattle.hazard.specs.Verdict.{faultA}
 use Rattle.cube.specs.PointSet.{inSet}
 use Rattle.cube.proofs.Scan.{Places, places-start, places-hit, places-miss, places-end}
 use Rattle.cube.proofs.Word.{stands-in}
-use Rattle.problem.specs.Codes.{foundOf}
+use Rattle.points.specs.Found.{foundOf}
 use Rattle.choice.specs.Network.{cubeIn, networkIn}
 use Rattle.verifier.proofs.Looks.{product-read}
 use Rattle.verifier.proofs.fault.fault_a.Statement.{statement}
@@ -33,16 +33,16 @@ shared-slice-read-cube-in c = search needs
 cube-in-requires : tie.Need-cube-in-requires Inv-loop μ-loop
 cube-in-requires c κs = search needs
 
-lowest-zero-requires : tie.Need-lowest-zero-requires Inv-loop μ-loop
-lowest-zero-requires c κs = let s = c .before .before .before .before .before .before in (s .pre .0 .0, stands-in (s .pre .1 (c .before .before .before .loop .j)) (c .cube-in .ensures) .fits)
+lowest-in-requires : tie.Need-lowest-in-requires Inv-loop μ-loop
+lowest-in-requires c κs = let s = c .before .before .before .before .before .before in (s .pre .0 .0, stands-in (s .pre .1 (c .before .before .before .loop .j)) (c .cube-in .ensures) .fits)
 
 -- What is looked at is the product.
-look-is : (c : tie.After-lowest-zero Inv-loop μ-loop)
-    → let a = c .before .before .before .before .before .before .before .args in foundOf (c .lowest-zero .result) ≡ lowestZero (a .n) (inSet (a .off .now)) (productAt (networkIn (a .n) (a .products .now)) (c .before .before .before .before .loop .j))
+look-is : (c : tie.After-lowest-in Inv-loop μ-loop)
+    → let a = c .before .before .before .before .before .before .before .args in foundOf (c .lowest-in .result) ≡ lowestZero (a .n) (inSet (a .off .now)) (productAt (networkIn (a .n) (a .products .now)) (c .before .before .before .before .loop .j))
 look-is c =
     let s = c .before .before .before .before .before .before .before in
     let j = c .before .before .before .before .loop .j in
-    c .lowest-zero .ensures
+    c .lowest-in .ensures
     ∙ ap (lowestZero (s .args .n) (inSet (s .args .off .now))) (product-read (s .args .n) (s .args .products .now) j (omega arith) (stands-in {w = getD (s .args .products .now) j 0} (s .pre .1 j) (c .before .cube-in .ensures)))
 
 enum-known-z : tie.Need-enum-known-z Inv-loop μ-loop
@@ -85,7 +85,7 @@ fault-a-spec =
     mul-cube-in
     shared-slice-read-cube-in
     cube-in-requires
-    lowest-zero-requires
+    lowest-in-requires
     enum-known-z
     cast-t12
     returns

@@ -1,6 +1,6 @@
 use native.Mathlib.Omega.{arith}
 use Rattle.problem.proofs.Parts.{parts}
-use Rattle.expand.proofs.Ready.{off-ready}
+use Rattle.points.proofs.Ready.{words-ready}
 use Rattle.verifier.proofs.Judging.{part-few, read-size, read-few, read-clean, rows-enough, judged}
 use borrow.Author.Needs.{needs}
 use Rattle.verifier.proofs.judge.judge_with.Statement.{statement}
@@ -92,7 +92,7 @@ first-fault-requires c κs =
     let r = c .before .before .before .before .before .before .before .before .before .before .before .before .before .before .before .before .before .before .before .before .before .before .before .read-network .ensures in
     let rows = s .args .rows .now in
     let few = part-few rows 32 (s .pre .1 .1 .2) in (
-      (off-ready (s .pre .0 .2 .small) (s .pre .1 .0 .0 .long), c .before .before .before .before .before .before .before .before .before .before .before .before .before .before .before .before .before .columns-into .ensures, read-few r (s .pre .0 .2)),
+      (words-ready (s .pre .0 .2 .small) (s .pre .1 .0 .0 .long), c .before .before .before .before .before .before .before .before .before .before .before .before .before .before .before .before .before .columns-into .ensures, read-few r (s .pre .0 .2)),
       (read-clean r, (search few, rows-enough r rows (s .pre .1 .1 .3), c .before .before .before .before .before .before .before .before .before .before .before .blocks-into .ensures)),
     )
 

@@ -8,17 +8,17 @@ use Rattle.hazard.specs.Cube.{has}
 use Rattle.cube.specs.declared.mask.Cube.{Cube}
 use Rattle.cube.specs.Mask.{cubeOf, Clean, Stands}
 use Rattle.cube.specs.PointSet.{inSet}
 use Rattle.points.proofs.Walk.{inWords, Visit, visit-start, visit-word, visit-gap, visit-next, Looked, looked-start, looked-more, looked-hit, looked-past, looked-end}
 use Rattle.points.proofs.Agree.{stands-ten, words-cube}
 use borrow.Author.Needs.{needs}
-use Rattle.expand.proofs.zero.lowest_zero.Statement.{statement}
-use Rattle.expand.proofs.zero.lowest_zero.Tie as tie
+use Rattle.points.proofs.lowest.lowest_in.Statement.{statement}
+use Rattle.points.proofs.lowest.lowest_in.Tie as tie
 
 abbrev Inv-loop : tie.InvT-loop
-Inv-loop n off size words m h w₀ w = (size ≡ 2 ^ n) × (2 ^ n ≤ 1024) × (words ≡ (2 ^ n + 63) / 64) × Visit h w × Looked (inWords h m (inSet off)) w
+Inv-loop n set size words m h w₀ w = (size ≡ 2 ^ n) × (2 ^ n ≤ 1024) × (words ≡ (2 ^ n + 63) / 64) × Visit h w × Looked (inWords h m (inSet set)) w
 
 abbrev μ-loop : tie.MeasureT-loop
-μ-loop n off size words m h w₀ w = words - w
+μ-loop n set size words m h w₀ w = words - w
 
 -- The cube's own digits.
 self : {n : ℕ} {c : Cube} → Clean n c → Stands n c (cubeOf n c)
@@ -26,8 +26,8 @@ self f = record { fits = f; is = refl }
 
 -- The points by words are those of the cube.
 same : (c : tie.After-word-cube Inv-loop μ-loop) (x : ℕ) → let a = c .before .before .before .args in
-    inWords (c .word-cube .result) (c .before .low-mask .result) (inSet (a .off .now)) x ≡ (has (cubeOf (a .n) (a .c)) x && inSet (a .off .now) x)
-same c x = let s = c .before .before .before in words-cube (self (s .pre .1)) (c .before .low-mask .ensures) (c .word-cube .ensures) (inSet (s .args .off .now)) x
+    inWords (c .word-cube .result) (c .before .low-mask .result) (inSet (a .set .now)) x ≡ (has (cubeOf (a .n) (a .c)) x && inSet (a .set .now) x)
+same c x = let s = c .before .before .before in words-cube (self (s .pre .1)) (c .before .low-mask .ensures) (c .word-cube .ensures) (inSet (s .args .set .now)) x
 
 shl-size : tie.Need-shl-size Inv-loop μ-loop
 shl-size c = search needs
@@ -100,8 +100,8 @@ loop-again c =
 returns-3 : tie.Need-returns-3 Inv-loop μ-loop
 returns-3 c = let i = c .before .loop .inv in looked-end (i .4) (λ x u. same (c .before .before .before) x) (i .1) (omega (arith, i .2))
 
-pub lowest-zero-spec : {M : Type 1} → statement M
-lowest-zero-spec =
+pub lowest-in-spec : {M : Type 1} → statement M
+lowest-in-spec =
     tie.close
     (tie.spec
     Inv-loop
