@@ -1,0 +1,65 @@
+use mathlib.Core.Path.{_∙_}
+use mathlib.Core.Bool.{Bool, _||_}
+use mathlib.Core.List.{List}
+use Prim.Native.Nat.{ℕ, _%_}
+use native.Mathlib.Omega.{arith}
+use lib.Dec.{eqb, ltb, eqb→eq, lt→ltb, ltb→lt}
+use lib.ListN.{length}
+use Rattle.hazard.specs.Transition.{count}
+use Rattle.hazard.proofs.Test.{or-l, or-r, eqb-of}
+use Rattle.refusal.proofs.Checks.{refuse-yes, refuse-no}
+use Rattle.checks.proofs.Checks.{neither}
+use borrow.Author.Needs.{needs}
+use Rattle.checks.proofs.list.check_list.Statement.{statement}
+use Rattle.checks.proofs.list.check_list.Tie as tie
+
+-- The three tests.
+abbrev empty : List ℕ → Bool
+empty l = eqb (length l) 0
+
+abbrev odd : List ℕ → Bool
+odd l = eqb (length l % 2) 1
+
+abbrev long : List ℕ → Bool
+long l = ltb 64 (count l)
+
+refused-requires : tie.Need-refused-requires
+refused-requires c κs = search needs
+
+returns : tie.Need-returns
+returns c =
+    let l = c .before .before .before .args .transitions .now in
+    c .refused .ensures ∙ refuse-yes (empty l || (odd l || long l)) 4 (or-l (empty l) (odd l || long l) (eqb-of (c .before .if1 .taken)))
+
+refused-requires-2 : tie.Need-refused-requires-2
+refused-requires-2 c κs = search needs
+
+returns-2 : tie.Need-returns-2
+returns-2 c =
+    let l = c .before .before .before .before .args .transitions .now in
+    c .refused2 .ensures ∙ refuse-yes (empty l || (odd l || long l)) 4 (or-r (empty l) (odd l || long l) (or-l (odd l) (long l) (eqb-of (c .before .if2 .taken))))
+
+refused-requires-3 : tie.Need-refused-requires-3
+refused-requires-3 c κs = search needs
+
+returns-3 : tie.Need-returns-3
+returns-3 c =
+    let l = c .before .before .before .before .before .args .transitions .now in
+    c .refused3 .ensures ∙ refuse-yes (empty l || (odd l || long l)) 4 (or-r (empty l) (odd l || long l) (or-r (odd l) (long l) (lt→ltb 64 (count l) (c .before .if3 .taken))))
+
+returns-4 : tie.Need-returns-4
+returns-4 c =
+    let l = c .before .before .before .before .args .transitions .now in
+    refuse-no (empty l || (odd l || long l)) 4 (neither (empty l) (odd l || long l) (λ t. c .before .before .if1 .left (eqb→eq (length l) 0 t)) (neither (odd l) (long l) (λ t. c .before .if2 .left (eqb→eq (length l % 2) 1 t)) (λ t. omega (arith, ltb→lt 64 (count l) t))))
+
+pub check-list-spec : {M : Type 1} → statement M
+check-list-spec =
+    tie.close
+    (tie.spec
+    refused-requires
+    returns
+    refused-requires-2
+    returns-2
+    refused-requires-3
+    returns-3
+    returns-4)

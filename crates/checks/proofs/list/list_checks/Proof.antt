@@ -1,0 +1,37 @@
+use mathlib.Core.Path.{_∙_, sym}
+use mathlib.Core.List.{[], _∷_}
+use Rattle.hazard.specs.Refusal.{listCheck, endsCheck}
+use Rattle.hazard.proofs.Rules.{list-few}
+use Rattle.refusal.proofs.Checks.{passed, run-stays, run-passed, alone}
+use borrow.Author.Needs.{needs}
+use Rattle.checks.proofs.list.list_checks.Statement.{statement}
+use Rattle.checks.proofs.list.list_checks.Tie as tie
+
+check-list-requires : tie.Need-check-list-requires
+check-list-requires c κs = search needs
+
+enum-told : tie.Need-enum-told
+enum-told c = search needs
+
+enum-told-2 : tie.Need-enum-told-2
+enum-told-2 c = search needs
+
+returns : tie.Need-returns
+returns c =
+    let a = c .before .before .before .before .args in
+    run-stays (listCheck (a .transitions .now) ∷ []) (alone (c .before .before .check-list .ensures)) (endsCheck (a .n) (a .transitions .now) ∷ []) (c .enum-told2 .given .1)
+
+check-ends-requires : tie.Need-check-ends-requires
+check-ends-requires c κs =
+    let s = c .before .before .before .before in
+    (s .pre, list-few (s .args .transitions .now) (passed (c .before .before .check-list .ensures) (c .enum-told .given .1)) .2)
+
+returns-2 : tie.Need-returns-2
+returns-2 c =
+    let a = c .before .before .before .before .before .args in
+    alone (c .check-ends .ensures) ∙ sym (run-passed (listCheck (a .transitions .now) ∷ []) (alone (c .before .before .before .check-list .ensures)) (endsCheck (a .n) (a .transitions .now) ∷ []) (c .before .enum-told .given .1))
+
+pub list-checks-spec : {M : Type 1} → statement M
+list-checks-spec =
+    tie.close
+    (tie.spec check-list-requires enum-told enum-told-2 returns check-ends-requires returns-2)

@@ -1,0 +1,7 @@
+// The limits that can be moved, each in one place: those of specs/Limits.
+
+// The most required cubes of a problem.
+pub const MOST_REQUIRED: usize = 2048;
+
+// The most products of a network that is verified.
+pub const MOST_PRODUCTS: usize = 2048;

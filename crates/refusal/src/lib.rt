@@ -1,0 +1,3 @@
+// Refusals, and what a check says.
+pub mod checked;
+pub mod refusal;

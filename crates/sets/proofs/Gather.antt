@@ -1,0 +1,239 @@
+-- Loops that count or store: the invariant of each, where it starts, what a turn does to it, and where it ends.
+use mathlib.Core.Path.{_≡_, refl, sym, ap, _∙_}
+use mathlib.Core.Bool.{Bool, true, false, cond}
+use mathlib.Core.List.{List, [], _∷_, _++_, map, append-assoc, append-nil, map-append}
+use mathlib.Core.Logic.{_≢_}
+use Prim.Native.Nat.{ℕ, zero, suc, _+_, _-_, _*_, _%_, _^_, _≤_, _<_}
+use native.Mathlib.Nat.{sub-zero, sub-eq-zero-of-le, one-mul, mod-eq-of-lt}
+use native.Mathlib.Numerals.{add-one}
+use native.Mathlib.Omega.{arith}
+use native.Mathlib.Decide.{ℕ-discrete}
+use lib.Bits.{bitXor}
+use lib.Count.{ones, trailingZeros}
+use lib.ListN.{length, take, set, length-append, length-set, length-map}
+use lib.Pow.{pow-mono, pow-pos, pow-lt}
+use lib.Seq.{take-suc-set, getD-set-same, getD-set-other}
+use Rattle.hazard.specs.Search.{those}
+use Rattle.hazard.specs.Cube.{flip}
+use Rattle.hazard.specs.Transition.{Kind, low, rise, fall, high, kind, start, end, count}
+use Rattle.hazard.specs.Sets.{Privileged, labels, maximalLabel, dynamic, startPoint, kindAt, requiredOf, requiredFrom, required, privilegedFrom}
+use Rattle.cube.specs.declared.mask.Cube.{Cube}
+use Rattle.cube.specs.Mask.{cubeOf}
+use Rattle.cube.specs.Next.{Next}
+use Rattle.cube.specs.Entry.{CleanWord}
+use Rattle.cube.proofs.Points.{flip-xor}
+use Rattle.cube.proofs.ByWords.{lowest-bit}
+use Rattle.cube.proofs.Scan.{left}
+use Rattle.points.specs.PointWord.{WordOf, pointsIn, Below}
+use Rattle.points.specs.Turn.{masked}
+use Rattle.points.proofs.Walk.{Agrees, inWords, Visit, visit-word}
+use Rattle.points.proofs.Members.{ahead, ahead-word, ahead-start, ahead-more, ahead-end, points-count, points-none, points-more, cleared-less, cleared-below, lowest-below}
+use Rattle.sets.specs.Store.{Stored, Held, requiredTo, requiredFor, privilegedFor}
+
+-- No more pass than there are.
+pub those-few : (test : ℕ → Bool) (from size : ℕ) → length (those test from size) ≤ size
+those-few test from zero = omega arith
+those-few test from (suc size) = go (test from) (those-few test (suc from) size)
+  where
+    go : (b : Bool) → length (those test (suc from) size) ≤ size → length {A = ℕ} (elim b [ true ↦ from ∷ those test (suc from) size | false ↦ those test (suc from) size ]) ≤ suc size
+    go true h = omega arith
+    go false h = omega arith
+
+pub labels-few : (n : ℕ) (f : List ℕ) (k : Kind) (a b : ℕ) → length (labels n f k a b) ≤ 2 ^ n
+labels-few n f low a b = omega arith
+labels-few n f rise a b = those-few (maximalLabel n f b a) 0 (2 ^ n)
+labels-few n f fall a b = those-few (maximalLabel n f a b) 0 (2 ^ n)
+labels-few n f high a b = pow-pos n
+
+-- A loop over the words of a cube that counts the points that pass.
+pub record Tally (h : Cube) (m : ℕ) (test : ℕ → Bool) (w k total : ℕ) : Type 0 where
+  pub sum : k + length (ahead (inWords h m test) w) ≡ total
+
+pub tally-start : {h : Cube} {w : ℕ} → Visit h w → (m : ℕ) (test : ℕ → Bool) {like : ℕ → Bool} {size : ℕ} → Agrees (inWords h m test) like size → size ≤ 1024 → Tally h m test (h .value) 0 (length (those like 0 size))
+tally-start i m test a l = record { sum = omega (arith, ap length (ahead-start i m test a l)) }
+
+module _ {h : Cube} {m : ℕ} {test : ℕ → Bool} {w k total : ℕ} (s : Tally h m test w k total) where
+  pub tally-more : {v : ℕ} → Visit h w → Next 4 (cubeOf 4 h) w v → w < 16 → {r : ℕ} → WordOf (masked m test) w r → Tally h m test v (k + ones r) total
+  tally-more {v} i q l {r} p = record { sum = omega (arith, s .sum, ap length (ahead-more i q m test (visit-word i m test l p) l) ∙ length-append (pointsIn w r) (ahead (inWords h m test) v), points-count w r (p .small)) }
+
+  pub tally-end : {like : ℕ → Bool} {size : ℕ} → Agrees (inWords h m test) like size → size ≤ 64 * w → k ≡ total
+  tally-end a l = omega (arith, s .sum, ap length (ahead-end w a l))
+
+-- A loop over the transitions that counts their required cubes.
+pub record Counted (n : ℕ) (f ts : List ℕ) (t total : ℕ) : Type 0 where
+  pub low : t ≤ count ts
+  pub small : total ≤ 1024 * t
+  pub sum : total + length (requiredFrom n f ts t (count ts - t)) ≡ length (required n f ts)
+
+pub counted-start : (n : ℕ) (f ts : List ℕ) → Counted n f ts 0 0
+counted-start n f ts = record { low = omega arith; small = omega arith; sum = rw sub-zero (omega arith) }
+
+-- The required cubes of a transition of a known kind.
+pub for-size : (n : ℕ) (f : List ℕ) (t a b : ℕ) {k : Kind} → kind f a b ≡ k → length (requiredFor n f t a b) ≡ length (labels n f k a b)
+for-size n f t a b e = length-map (labels n f (kind f a b) a b) (requiredTo n t (startPoint (kind f a b) a b)) ∙ ap (λ (k : Kind). length (labels n f k a b)) e
+
+pub for-is : (n : ℕ) (f : List ℕ) (t a b : ℕ) {k : Kind} → kind f a b ≡ k → map (requiredTo n t (startPoint k a b)) (labels n f k a b) ≡ requiredFor n f t a b
+for-is n f t a b e = ap (λ (k : Kind). map (requiredTo n t (startPoint k a b)) (labels n f k a b)) (sym e)
+
+pub start-lt : (k : Kind) (a b : ℕ) {m : ℕ} → a < m → b < m → startPoint k a b < m
+start-lt low a b h l = h
+start-lt rise a b h l = l
+start-lt fall a b h l = h
+start-lt high a b h l = h
+
+-- The required and the privileged cubes from transition t on, and from the next.
+pub required-step : (n : ℕ) (f ts : List ℕ) (t : ℕ) → t < count ts → requiredFrom n f ts t (count ts - t) ≡ requiredOf n f ts t ++ requiredFrom n f ts (t + 1) (count ts - (t + 1))
+required-step n f ts t l = rw (left (count ts) t l, add-one t)
+
+pub required-done : (n : ℕ) (f ts : List ℕ) (t : ℕ) → count ts ≤ t → requiredFrom n f ts t (count ts - t) ≡ []
+required-done n f ts t h = rw (sub-eq-zero-of-le h)
+
+pub privileged-done : (n : ℕ) (f ts : List ℕ) (t : ℕ) → count ts ≤ t → privilegedFrom n f ts t (count ts - t) ≡ []
+privileged-done n f ts t h = rw (sub-eq-zero-of-le h)
+
+pub privileged-step : (n : ℕ) (f ts : List ℕ) (t : ℕ) → t < count ts
+    → privilegedFrom n f ts t (count ts - t) ≡ cond (dynamic (kindAt f ts t)) (privilegedFor n f t (start ts t) (end ts t) ∷ []) [] ++ privilegedFrom n f ts (t + 1) (count ts - (t + 1))
+privileged-step n f ts t l = rw (left (count ts) t l, add-one t) (go (dynamic (kindAt f ts t)))
+  where
+    rest : List Privileged
+    rest = privilegedFrom n f ts (suc t) (count ts - suc t)
+
+    go : (b : Bool) → _≡_ {A = List Privileged} (elim b [ true ↦ privilegedFor n f t (start ts t) (end ts t) ∷ rest | false ↦ rest ]) (cond b (privilegedFor n f t (start ts t) (end ts t) ∷ []) [] ++ rest)
+    go true = refl
+    go false = refl
+
+module _ {n : ℕ} {f ts : List ℕ} {t total : ℕ} (s : Counted n f ts t total) where
+  pub counted-more : n ≤ 10 → t < count ts → {j : ℕ} → j ≡ length (labels n f (kindAt f ts t) (start ts t) (end ts t)) → Counted n f ts (t + 1) (total + j)
+  counted-more h l {j} e =
+      record {
+        low = omega arith;
+        small = omega (arith, s .small, labels-few n f (kindAt f ts t) (start ts t) (end ts t), pow-mono {j = 10} h);
+        sum = omega (arith, s .sum, simp (length-append, length-map) at (ap length (required-step n f ts t l)));
+      }
+
+  pub counted-end : count ts ≤ t → total ≡ length (required n f ts)
+  counted-end h = let e : count ts - t ≡ 0 = omega arith in omega (arith, rw e at (s .sum))
+
+module _ {A : Type 0} {n : ℕ} {read : ℕ → A} where
+  pub stored-none : (out : List ℕ) (k : ℕ) → Stored n read out out k k []
+  stored-none out k = record { is = sym (append-nil _); size = omega arith; long = refl; clean = λ h. h }
+
+  pub stored-one : (out : List ℕ) (k w : ℕ) → k < length out → CleanWord n w → {a : A} → read w ≡ a → Stored n read out (set out k w) k (k + 1) (a ∷ [])
+  stored-one out k w h u {a} e =
+      record {
+        is = rw (add-one k, take-suc-set out k w h, map-append) (ap (λ (b : A). map read (take k out) ++ (b ∷ [])) e);
+        size = refl;
+        long = length-set out k w;
+        clean = λ g i l. elim (ℕ-discrete i k) [ yes q ↦ rw (q, getD-set-same out k w 0 h) u | no q ↦ rw (getD-set-other out k i w 0 q) (g i (omega arith)) ];
+      }
+
+  pub stored-as : {before after : List ℕ} {k r : ℕ} {l m : List A} → l ≡ m → Stored n read before after k r l → Stored n read before after k r m
+  stored-as e s = rw (← e) s
+
+  -- The entry is there where the test holds.
+  pub stored-yes : {before after : List ℕ} {k r : ℕ} {a : A} {b : Bool} → b ≡ true → Stored n read before after k r (a ∷ []) → Stored n read before after k r (cond b (a ∷ []) [])
+  stored-yes e s = rw e s
+
+  pub stored-no : (a : A) {b : Bool} → b ≡ false → (out : List ℕ) (k : ℕ) → Stored n read out out k k (cond b (a ∷ []) [])
+  stored-no a e out k = rw e (stored-none out k)
+
+  stored-then : {before middle after : List ℕ} {j k r : ℕ} {l m : List A} → Stored n read before middle j k l → Stored n read middle after k r m → Stored n read before after j r (l ++ m)
+  stored-then {before} {j} {l} {m} s t =
+      record {
+        is = t .is ∙ rw (s .is) (append-assoc (map read (take j before)) l m);
+        size = omega (arith, s .size, t .size, length-append l m);
+        long = t .long ∙ s .long;
+        clean = λ g. t .clean (s .clean g);
+      }
+
+  -- From the first place on.
+  pub held : {before after : List ℕ} {r : ℕ} {l : List A} → Stored n read before after 0 r l → Held n read before after r l
+  held s = record { is = s .is; size = omega (arith, s .size); long = s .long; clean = s .clean (λ i l. absurd (omega arith)) }
+
+-- A loop that stores a list: from place `from` to place k its first part is stored, and the rest is to come.
+pub record Filling {A : Type 0} (n : ℕ) (read : ℕ → A) (before after : List ℕ) (from k : ℕ) (rest whole : List A) : Type 0 where
+  pub done : List A
+  pub stored : Stored n read before after from k done
+  pub all : whole ≡ done ++ rest
+
+pub filling-start : {A : Type 0} (n : ℕ) (read : ℕ → A) (out : List ℕ) (from : ℕ) (whole : List A) → Filling n read out out from from whole whole
+filling-start n read out from whole = record { done = []; stored = stored-none out from; all = refl }
+
+module _ {A : Type 0} {n : ℕ} {read : ℕ → A} {before after : List ℕ} {from k : ℕ} {rest whole : List A} (s : Filling n read before after from k rest whole) where
+  pub filling-more : {after′ : List ℕ} {r : ℕ} {added rest′ : List A} → Stored n read after after′ k r added → rest ≡ added ++ rest′ → Filling n read before after′ from r rest′ whole
+  filling-more {added} {rest′} t e = record { done = s .done ++ added; stored = stored-then (s .stored) t; all = s .all ∙ rw e (sym (append-assoc (s .done) added rest′)) }
+
+  pub filling-room : from + length whole ≤ length before → k + length rest ≤ length after
+  filling-room h = omega (arith, s .stored .size, s .stored .long, simp length-append at (ap length (s .all)))
+
+  pub filling-end : rest ≡ [] → Stored n read before after from k whole
+  filling-end e = rw (s .all, e, append-nil) (s .stored)
+
+-- A loop over the words of a cube that stores an entry for each point that passes.
+pub record Walked {A : Type 0} (n : ℕ) (read entry : ℕ → A) (before after : List ℕ) (from k : ℕ) (h : Cube) (m : ℕ) (test : ℕ → Bool) (w : ℕ) (whole : List ℕ) : Type 0 where
+  pub filling : Filling n read before after from k (map entry (ahead (inWords h m test) w)) (map entry whole)
+
+pub walked-start : {A : Type 0} (n : ℕ) (read entry : ℕ → A) (out : List ℕ) (from : ℕ) {h : Cube} {w : ℕ} → Visit h w → (m : ℕ) (test : ℕ → Bool) {like : ℕ → Bool} {size : ℕ} → Agrees (inWords h m test) like size → size ≤ 1024
+    → Walked n read entry out out from from h m test (h .value) (those like 0 size)
+walked-start n read entry out from i m test a l = record { filling = rw (ahead-start i m test a l) (filling-start n read out from _) }
+
+module _ {A : Type 0} {n : ℕ} {read entry : ℕ → A} {before after : List ℕ} {from k : ℕ} {h : Cube} {m : ℕ} {test : ℕ → Bool} {w : ℕ} {whole : List ℕ} (s : Walked n read entry before after from k h m test w whole) where
+  module _ (i : Visit h w) (l : w < 16) {r : ℕ} (p : WordOf (masked m test) w r) where
+    pub walked-room : from + length whole ≤ length before → k + length (pointsIn w r) ≤ length after
+    walked-room g =
+        let e = ap length (ahead-word (visit-word i m test l p) l) ∙ length-append (pointsIn w r) (ahead (inWords h m test) (w + 1)) in
+        omega (arith, filling-room (s .filling) (omega (arith, g, length-map whole entry)), e, length-map (ahead (inWords h m test) w) entry)
+
+    -- One word, and the words after it.
+    pub walked-more : {v : ℕ} → Next 4 (cubeOf 4 h) w v → {after′ : List ℕ} {k′ : ℕ} → Stored n read after after′ k k′ (map entry (pointsIn w r)) → Walked n read entry before after′ from k′ h m test v whole
+    walked-more {v} q t = record { filling = filling-more (s .filling) t (ap (map entry) (ahead-more i q m test (visit-word i m test l p) l) ∙ map-append entry (pointsIn w r) (ahead (inWords h m test) v)) }
+
+  pub walked-end : {like : ℕ → Bool} {size : ℕ} → Agrees (inWords h m test) like size → size ≤ 64 * w → Stored n read before after from k (map entry whole)
+  walked-end a l = filling-end (s .filling) (ap (map entry) (ahead-end w a l))
+
+-- A loop over the points of one word that stores an entry for each: those of what is left of the word are to come.
+pub record Storing {A : Type 0} (n : ℕ) (read entry : ℕ → A) (before after : List ℕ) (from k w rest word : ℕ) : Type 0 where
+  pub small : rest < 2 ^ 64
+  pub below : Below (2 ^ n) w rest
+  pub filling : Filling n read before after from k (map entry (pointsIn w rest)) (map entry (pointsIn w word))
+
+-- The code clears a bit by xor.
+clear-is : (r b : ℕ) → b < 64 → bitXor r ((1 * 2 ^ b) % 2 ^ 64) ≡ flip r b
+clear-is r b h = ap (bitXor r) (ap (λ (x : ℕ). x % 2 ^ 64) (one-mul (2 ^ b)) ∙ mod-eq-of-lt (pow-lt {i = b} {j = 64} h)) ∙ flip-xor r b
+
+pub storing-start : {A : Type 0} {n : ℕ} (read entry : ℕ → A) (out : List ℕ) (from : ℕ) {w word : ℕ} → word < 2 ^ 64 → Below (2 ^ n) w word → Storing n read entry out out from from w word word
+storing-start {n = n} read entry out from h b = record { small = h; below = b; filling = filling-start n read out from _ }
+
+module _ {A : Type 0} {n : ℕ} {read entry : ℕ → A} {before after : List ℕ} {from k w rest word : ℕ} (s : Storing n read entry before after from k w rest word) where
+  pub storing-bit : rest ≢ 0 → trailingZeros 64 rest < 64
+  storing-bit ne = lowest-bit 64 rest (s .small) ne .inside
+
+  pub storing-less : rest ≢ 0 → bitXor rest ((1 * 2 ^ trailingZeros 64 rest) % 2 ^ 64) < rest
+  storing-less ne = rw (clear-is rest (trailingZeros 64 rest) (storing-bit ne)) (cleared-less w rest (s .small) ne)
+
+  pub storing-below : rest ≢ 0 → 64 * w + trailingZeros 64 rest < 2 ^ n
+  storing-below ne = lowest-below w rest (s .small) ne (s .below)
+
+  pub storing-room : rest ≢ 0 → from + length (pointsIn w word) ≤ length before → k < length after
+  storing-room ne h =
+      let e = length-map (pointsIn w word) entry in
+      let g = length-map (pointsIn w rest) entry in
+      omega (arith, filling-room (s .filling) (omega (arith, h, e)), g, ap length (points-more w rest (s .small) ne))
+
+  pub storing-more : rest ≢ 0 → {after′ : List ℕ} {r : ℕ} → Stored n read after after′ k r (entry (64 * w + trailingZeros 64 rest) ∷ [])
+      → Storing n read entry before after′ from r w (bitXor rest ((1 * 2 ^ trailingZeros 64 rest) % 2 ^ 64)) word
+  storing-more ne t =
+      rw (clear-is rest (trailingZeros 64 rest) (storing-bit ne))
+      (record {
+        small = omega (arith, s .small, cleared-less w rest (s .small) ne);
+        below = cleared-below w rest (s .small) ne (s .below);
+        filling = filling-more (s .filling) t (ap (map entry) (points-more w rest (s .small) ne));
+      })
+
+  pub storing-end : rest ≡ 0 → Stored n read before after from k (map entry (pointsIn w word))
+  storing-end e = filling-end (s .filling) (ap (λ (r : ℕ). map entry (pointsIn w r)) e ∙ ap (map entry) (points-none w))
+
+-- A test adds at most one entry.
+pub entry-few : {A : Type 0} (b : Bool) (a : A) → length (cond b (a ∷ []) []) ≤ 1
+entry-few true a = omega arith
+entry-few false a = omega arith

@@ -1,0 +1,4 @@
+pub mod Coded
+pub mod Word
+pub mod Gather
+pub mod Parts
