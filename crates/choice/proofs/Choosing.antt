@@ -15,8 +15,8 @@ use Rattle.hazard.specs.Cube.{inside}
 use Rattle.hazard.specs.Cover.{Network, covered}
 use Rattle.hazard.proofs.Test.{is, isnt, known, or-e}
 use Rattle.hazard.proofs.Choice.{covered-append-l, covered-snoc}
+use Rattle.cube.specs.Entry.{cubeIn, networkIn}
 use Rattle.cube.specs.PointSet.{inSet}
-use Rattle.choice.specs.Network.{cubeIn, networkIn}
 use Rattle.choice.specs.First.{firstIn}
 use Rattle.choice.specs.Flag.{Flagged, Unflagged, Flagging}
 use Rattle.choice.specs.Keep.{Noted}

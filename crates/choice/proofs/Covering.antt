@@ -16,11 +16,11 @@ use Rattle.hazard.proofs.Search.{any-e, any-i}
 use Rattle.hazard.proofs.Network.{covered-e, covered-i}
 use Rattle.hazard.proofs.Test.{T-and, T-no, bool-ext, eqb-of}
 use Rattle.cube.specs.Mask.{cubeOf}
+use Rattle.cube.specs.Entry.{cubeIn, networkIn}
 use Rattle.cube.specs.PointSet.{inSet}
 use Rattle.cube.specs.declared.mask.Cube as masks
 use Rattle.blocks.specs.Blocks.{allowedTo}
 use Rattle.blocks.proofs.Members.{lowest-few, lowest-set}
-use Rattle.choice.specs.Network.{cubeIn, networkIn}
 use Rattle.choice.specs.Rows.{Containing}
 use Rattle.choice.proofs.Firsts.{product-in}
 

@@ -13,7 +13,7 @@ use Rattle.hazard.specs.Cube.{Cube, inside}
 use Rattle.hazard.specs.Cover.{Network, productAt, covered}
 use Rattle.hazard.proofs.Search.{none-some, First, nowhere, lowest, first-is}
 use Rattle.hazard.proofs.Network.{covered-e, covered-i}
-use Rattle.choice.specs.Network.{cubeIn, networkIn}
+use Rattle.cube.specs.Entry.{cubeIn, networkIn}
 use Rattle.choice.specs.First.{firstIn}
 
 -- A map, part by part.

@@ -11,11 +11,11 @@ use lib.ListN.{length, getD, replicate, List·getD-eq-default, length-replicate,
 use Rattle.hazard.specs.Cube.{bit, inside}
 use Rattle.hazard.proofs.Test.{T-and, is, isnt}
 use Rattle.cube.specs.Mask.{cubeOf}
+use Rattle.cube.specs.Entry.{cubeIn}
 use Rattle.cube.specs.PointSet.{inSet}
 use Rattle.cube.specs.declared.mask.Cube as masks
 use Rattle.blocks.specs.Blocks.{allowedTo}
 use Rattle.blocks.specs.Sets.{Split}
-use Rattle.choice.specs.Network.{cubeIn}
 use Rattle.choice.specs.Rows.{Inside}
 use Rattle.choice.specs.Flag.{Flagged, Unflagged, Flagging}
 

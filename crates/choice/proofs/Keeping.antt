@@ -18,8 +18,7 @@ use Rattle.hazard.specs.Cover.{covered}
 use Rattle.hazard.proofs.Test.{tests, so, so-not, known}
 use Rattle.hazard.proofs.Search.{any-e, any-i}
 use Rattle.hazard.proofs.Choice.{Chosen, choice-start, choice-keep, choice-skip, choice-covers, choice-irredundant}
-use Rattle.cube.specs.Entry.{requiredIn}
-use Rattle.choice.specs.Network.{cubeIn, networkIn}
+use Rattle.cube.specs.Entry.{requiredIn, cubeIn, networkIn}
 use Rattle.choice.specs.First.{firstIn}
 use Rattle.choice.specs.Flag.{Flagged}
 use Rattle.choice.specs.Keep.{neededIn, Noted, Kept}

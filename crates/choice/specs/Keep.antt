@@ -8,8 +8,7 @@ use lib.Dec.{T, eqb}
 use lib.ListN.{length, getD, drop}
 use Rattle.hazard.specs.Sets.{Required}
 use Rattle.hazard.specs.Cover.{covered, Irredundant}
-use Rattle.cube.specs.Entry.{requiredIn}
-use Rattle.choice.specs.Network.{cubeIn, networkIn}
+use Rattle.cube.specs.Entry.{requiredIn, cubeIn, networkIn}
 use Rattle.choice.specs.First.{firstIn}
 
 -- Required cube i has product j for its first, and its flag is not set.

@@ -1,4 +1,3 @@
-pub mod Network
 pub mod Rows
 pub mod First
 pub mod Flag

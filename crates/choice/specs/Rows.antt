@@ -4,8 +4,8 @@ use mathlib.Core.List.{List}
 use Prim.Native.Nat.{ℕ, _/_, _%_}
 use lib.Dec.{eqb}
 use Rattle.hazard.specs.Cube.{bit, inside}
+use Rattle.cube.specs.Entry.{cubeIn}
 use Rattle.blocks.specs.Blocks.{Blocks}
-use Rattle.choice.specs.Network.{cubeIn}
 
 -- The columns tell which of the words' cubes lie inside a cube.
 abbrev pub Inside : ℕ → List ℕ → List ℕ → Type 0

@@ -3,7 +3,7 @@ ghost use mathlib.Core.Path.{_≡_};
 ghost use Prim.Native.Nat.{_*_, _≤_};
 ghost use lib.ListN.{length};
 ghost use Rattle.hazard.specs.Cover.{covered};
-ghost use Rattle.choice.specs.Network.{cubeIn, networkIn};
+ghost use Rattle.cube.specs.Entry.{cubeIn, networkIn};
 ghost use Rattle.choice.specs.Rows.{Containing};
 use blocks::narrow::narrow;
 use blocks::whole::has_row;

@@ -1,20 +1,21 @@
 -- The words of one input, bit by bit.
-use mathlib.Core.Path.{_≡_, refl, sym, ap, ap₂, _∙_, subst}
+use mathlib.Core.Path.{_≡_, refl, ap, ap₂, _∙_}
 use mathlib.Core.Bool.{Bool, _||_}
 use mathlib.Core.List.{List}
-use Prim.Native.Nat.{ℕ, zero, suc, _+_, _-_, _/_, _%_, _^_, _≤_, _<_}
+use Prim.Native.Nat.{ℕ, zero, suc, _+_, _-_, _/_, _^_, _≤_, _<_}
 use native.Mathlib.Nat.{not-suc-le-zero, le-of-suc-le-suc, pow-suc}
 use native.Mathlib.Omega.{arith}
 use lib.Dec.{eqb}
 use lib.Bits.{bitAnd, bitXor}
-use lib.Pow.{pow-pos, shr-shr}
+use lib.Pow.{pow-pos}
 use lib.ListN.{length, getD}
 use Rattle.hazard.specs.Cube.{bit, fits}
 use Rattle.hazard.proofs.Point.{bit-zero, bit-suc}
 use Rattle.cube.specs.Mask.{digit}
-use Rattle.cube.specs.Entry.{pointIn}
+use Rattle.cube.specs.Entry.{pointIn, valueBit, careBit, pointBit}
 use Rattle.cube.proofs.Bits.{bit-case2}
-use Rattle.cube.proofs.WordMask.{mod-bit, and-bits, xor-bits}
+use Rattle.cube.proofs.WordMask.{and-bits, xor-bits}
+use Rattle.cube.proofs.Fields.{value-bits, care-bits, point-bits}
 use Rattle.columns.specs.Column.{columnOf}
 use Rattle.columns.specs.Relation.{digitIn, allows}
 use Rattle.columns.specs.Table.{Allowing, AllowedAt}
@@ -80,27 +81,19 @@ module _ (care value : ℕ) where
         absent· = λ k h. by-bits (bit (bitXor 18446744073709551615 care) k) k (λ c v. bitXor 1 c) (λ e. fits 2 e) (not-bit care k h) refl refl refl refl;
       }
 
--- The bits of a word's fields.
-low-bits : (y i : ℕ) → i < 16 → bit y i ≡ bit (y % 65536) i
-low-bits y i h =
-    let e : suc (15 - i) + i ≡ 16 = omega arith in
-    sym (subst (λ (j : ℕ). bit (y % 2 ^ j) i ≡ bit y i) e (mod-bit y (15 - i) i))
-
-field-bits : (s w i : ℕ) → i < 16 → bit w (s + i) ≡ bit (w / 2 ^ s % 65536) i
-field-bits s w i h = ap (λ (y : ℕ). y % 2) (sym (shr-shr w s i)) ∙ low-bits (w / 2 ^ s) i h
-
-module _ (rows : List ℕ) {i : ℕ} (h : i < 16) where
-  pub digit-rows : {care value : ℕ} → care ≡ columnOf (16 + i) rows → value ≡ columnOf i rows → (k : ℕ) → k < length rows → digit (bit care k) (bit value k) ≡ digitIn (getD rows k 0) i
+-- The digits of the rows, from the columns of their words.
+module _ (rows : List ℕ) {i : ℕ} (h : i < 10) where
+  pub digit-rows : {care value : ℕ} → care ≡ columnOf (careBit + i) rows → value ≡ columnOf (valueBit + i) rows → (k : ℕ) → k < length rows → digit (bit care k) (bit value k) ≡ digitIn (getD rows k 0) i
   digit-rows p q k l =
       ap₂ digit
-      (ap (λ (y : ℕ). bit y k) p ∙ column-bit (16 + i) rows k l ∙ field-bits 16 (getD rows k 0) i h)
-      (ap (λ (y : ℕ). bit y k) q ∙ column-bit i rows k l ∙ low-bits (getD rows k 0) i h)
+      (ap (λ (y : ℕ). bit y k) p ∙ column-bit (careBit + i) rows k l ∙ care-bits (getD rows k 0) i (omega arith))
+      (ap (λ (y : ℕ). bit y k) q ∙ column-bit (valueBit + i) rows k l ∙ value-bits (getD rows k 0) i (omega arith))
 
-  pub point-rows : {value : ℕ} → length rows ≤ 64 → value ≡ columnOf (32 + i) rows → (k : ℕ) → k < length rows → digit (bit 18446744073709551615 k) (bit value k) ≡ bit (pointIn (getD rows k 0)) i
+  pub point-rows : {value : ℕ} → length rows ≤ 64 → value ≡ columnOf (pointBit + i) rows → (k : ℕ) → k < length rows → digit (bit 18446744073709551615 k) (bit value k) ≡ bit (pointIn (getD rows k 0)) i
   point-rows m q k l =
       ap₂ digit
       (ones-bit 64 k (omega arith))
-      (ap (λ (y : ℕ). bit y k) q ∙ column-bit (32 + i) rows k l ∙ field-bits 32 (getD rows k 0) i h)
+      (ap (λ (y : ℕ). bit y k) q ∙ column-bit (pointBit + i) rows k l ∙ point-bits (getD rows k 0) i (omega arith))
 
 -- The words of the rows, from those of the columns.
 pub allowed-rows : {test : ℕ → ℕ → Bool} {care value i : ℕ} {r : Allowed} (rel : Relation) (rows : List ℕ) (row : ℕ → ℕ)

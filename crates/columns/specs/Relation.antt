@@ -3,8 +3,8 @@ use mathlib.Core.Bool.{Bool, _||_}
 use Prim.Native.Nat.{ℕ}
 use lib.Dec.{eqb}
 use Rattle.hazard.specs.Cube.{Cube, bit, fits, has, meets, inside}
-use Rattle.cube.specs.Mask.{digit, digitsOf}
-use Rattle.cube.specs.Entry.{careIn, valueIn, pointIn}
+use Rattle.cube.specs.Mask.{digit}
+use Rattle.cube.specs.Entry.{careIn, valueIn, pointIn, cubeIn}
 use Rattle.columns.specs.declared.relation.Relation.{Relation}
 use Rattle.columns.specs.declared.relation.Relation.the-variants.{Inside, Meets, Contains, PointInside}
 
@@ -21,7 +21,7 @@ allows PointInside w i d = fits (bit (pointIn w) i) d
 
 -- The row w is related to the cube c of n inputs.
 abbrev pub relates : Relation → ℕ → Cube → ℕ → Bool
-relates Inside n c w = inside (digitsOf n (careIn w) (valueIn w)) c
-relates Meets n c w = meets c (digitsOf n (careIn w) (valueIn w))
-relates Contains n c w = inside c (digitsOf n (careIn w) (valueIn w))
+relates Inside n c w = inside (cubeIn n w) c
+relates Meets n c w = meets c (cubeIn n w)
+relates Contains n c w = inside c (cubeIn n w)
 relates PointInside n c w = has c (pointIn w)

@@ -6,6 +6,9 @@ ghost use lib.ListN.{length};
 ghost use Rattle.hazard.specs.Cube.{fits};
 ghost use Rattle.columns.specs.Table.{Allowing, AllowedAt};
 use crate::column::column;
+use cube::entry::CARE_BIT;
+use cube::entry::POINT_BIT;
+use cube::entry::VALUE_BIT;
 
 // The row's cube lies inside the cube, the cube meets it, it contains the cube, or the row's point lies in the cube.
 pub enum Relation {
@@ -60,13 +63,16 @@ fn containing_words(care: u64, value: u64) -> Allowed
 
 // The words of input i. Every literal of a point is present.
 pub fn allowed_at(rel: Relation, rows: &[u64], i: usize) -> Allowed
-    requires { ⌜ (length (now rows) ≤ 64) × (i < 16) ⌝ }
+    requires { ⌜ (length (now rows) ≤ 64) × (i < 10) ⌝ }
     ensures { λ r. ⌜ AllowedAt rel (now (rows .entry)) i r ⌝ }
 {
     match rel {
-        Relation::Inside => inside_words(column(rows, 16 + i), column(rows, i)),
-        Relation::Meets => meeting_words(column(rows, 16 + i), column(rows, i)),
-        Relation::Contains => containing_words(column(rows, 16 + i), column(rows, i)),
-        Relation::PointInside => inside_words(u64::MAX, column(rows, 32 + i)),
+        Relation::Inside => inside_words(column(rows, CARE_BIT + i), column(rows, VALUE_BIT + i)),
+        Relation::Meets => meeting_words(column(rows, CARE_BIT + i), column(rows, VALUE_BIT + i)),
+        Relation::Contains => containing_words(
+            column(rows, CARE_BIT + i),
+            column(rows, VALUE_BIT + i),
+        ),
+        Relation::PointInside => inside_words(u64::MAX, column(rows, POINT_BIT + i)),
     }
 }

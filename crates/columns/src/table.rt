@@ -7,7 +7,7 @@ use crate::relation::allowed_at;
 
 // The table, stored from the first word on.
 pub fn table_into(rel: Relation, n: usize, rows: &[u64], out: &mut [u64])
-    requires { ⌜ (length (now rows) ≤ 64) × (n ≤ 16) × (3 * n ≤ length (now out)) ⌝ }
+    requires { ⌜ (length (now rows) ≤ 64) × (n ≤ 10) × (3 * n ≤ length (now out)) ⌝ }
     ensures { λ _. ⌜ Table rel n (now (rows .entry)) (now (out .exit)) ⌝ }
 {
     let mut i = 0;

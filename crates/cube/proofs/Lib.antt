@@ -7,5 +7,6 @@ pub mod Scan
 pub mod Word
 pub mod Left
 pub mod WordMask
+pub mod Fields
 pub mod Sweep
 pub mod ByWords

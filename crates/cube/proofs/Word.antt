@@ -9,14 +9,14 @@ use lib.ListN.{length, getD, take, length-take, List·getD-eq-default}
 use lib.Seq.{getD-take}
 use Rattle.hazard.specs.Cube as digits
 use Rattle.cube.specs.Mask.{digitsOf, Stands}
-use Rattle.cube.specs.Entry.{careIn, valueIn, Packed, CleanWord}
+use Rattle.cube.specs.Entry.{careIn, valueIn, cubeIn, Packed, CleanWord}
 use Rattle.cube.specs.declared.mask.Cube.{Cube}
 
-pub stands-in : {n w : ℕ} {c : Cube} → CleanWord n w → (c .care ≡ careIn w) × (c .value ≡ valueIn w) → Stands n c (digitsOf n (careIn w) (valueIn w))
+pub stands-in : {n w : ℕ} {c : Cube} → CleanWord n w → (c .care ≡ careIn w) × (c .value ≡ valueIn w) → Stands n c (cubeIn n w)
 stands-in h (p, q) = record { fits = record { small = rw p (h .small); clean = rw (p, q) (h .clean) }; is = rw (p, q) }
 
 -- A packed cube stands for its digits.
-pub packed-is : {n w t x : ℕ} {c : Cube} {ds : digits.Cube} → Packed w t x (c .care) (c .value) → Stands n c ds → digitsOf n (careIn w) (valueIn w) ≡ ds
+pub packed-is : {n w t x : ℕ} {c : Cube} {ds : digits.Cube} → Packed w t x (c .care) (c .value) → Stands n c ds → cubeIn n w ≡ ds
 packed-is {n} p s = ap₂ (digitsOf n) (p .care·) (p .value·) ∙ s .is
 
 pub packed-clean : {n w t x : ℕ} {c : Cube} {ds : digits.Cube} → Packed w t x (c .care) (c .value) → Stands n c ds → x < 2 ^ n → CleanWord n w

@@ -3,6 +3,15 @@ ghost use mathlib.Core.Path.{_≡_};
 ghost use Rattle.cube.specs.Entry.{transitionIn, pointIn, careIn, valueIn, Packed};
 use crate::mask::Cube;
 
+// The bit of a word at which the value of its cube begins.
+pub const VALUE_BIT: usize = 0;
+
+// The bit at which the care begins.
+pub const CARE_BIT: usize = 16;
+
+// The bit at which the point begins.
+pub const POINT_BIT: usize = 32;
+
 // The word.
 pub fn pack(transition: u16, point: u16, c: Cube) -> u64
     ensures { λ r. ⌜ Packed r transition point (c .care) (c .value) ⌝ }

@@ -18,10 +18,9 @@ use Rattle.hazard.proofs.Cube.{inside→}
 use Rattle.hazard.proofs.Implicant.{prime-is}
 use Rattle.hazard.proofs.Growth.{Ends, grow-ends, blocked-none}
 use Rattle.hazard.proofs.Network.{covered-e}
-use Rattle.cube.specs.Entry.{requiredIn}
+use Rattle.cube.specs.Entry.{requiredIn, cubeIn, networkIn}
 use Rattle.cube.specs.PointSet.{inSet}
 use Rattle.cube.proofs.Left.{Left, left-start, left-end, check-hit, check-miss}
-use Rattle.choice.specs.Network.{cubeIn, networkIn}
 use Rattle.choice.proofs.Firsts.{product-in}
 use Rattle.choice.proofs.Choosing.{Choosing, choosing-end}
 use Rattle.minimiser.specs.Choose.{PrimeWord, Chosen}

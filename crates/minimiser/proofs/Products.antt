@@ -17,13 +17,12 @@ use Rattle.hazard.proofs.Growth.{Ends, legal, grow-ends}
 use Rattle.hazard.proofs.Expansion.{absorb-is, expand-prime, expand-around}
 use Rattle.cube.specs.declared.mask.Cube as masks
 use Rattle.cube.specs.Mask.{digit, digitsOf, cubeOf, Clean, Stands}
-use Rattle.cube.specs.Entry.{privilegedIn, Packed}
+use Rattle.cube.specs.Entry.{privilegedIn, Packed, cubeIn}
 use Rattle.cube.specs.PointSet.{inSet}
 use Rattle.cube.proofs.Word.{packed-is, packed-clean}
 use Rattle.expand.specs.declared.growth.Grown as code
 use Rattle.expand.specs.declared.growth.Grown.the-variants as variants
 use Rattle.expand.specs.Answer.{grownOf, LegalClean, Grows}
-use Rattle.choice.specs.Network.{cubeIn}
 use Rattle.minimiser.specs.Product.{Over, PrimeOver}
 use Rattle.minimiser.specs.Choose.{PrimeWord}
 

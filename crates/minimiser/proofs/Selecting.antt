@@ -9,9 +9,8 @@ use lib.Seq.{drop-append-le, take-at, getD-take, getD-drop, length-take-le}
 use Rattle.hazard.specs.Cube.{Cube}
 use Rattle.hazard.specs.Implicant.{DhfPrime}
 use Rattle.hazard.specs.Minimal.{bytesOf}
-use Rattle.cube.specs.Entry.{requiredIn, privilegedIn}
+use Rattle.cube.specs.Entry.{requiredIn, privilegedIn, cubeIn, networkIn}
 use Rattle.cube.specs.PointSet.{inSet}
-use Rattle.choice.specs.Network.{cubeIn, networkIn}
 use Rattle.choice.specs.Keep.{Kept}
 use Rattle.choice.proofs.Keeping.{index-of}
 use Rattle.minimiser.specs.Choose.{Chosen}

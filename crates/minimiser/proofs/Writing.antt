@@ -9,9 +9,8 @@ use lib.ListN.{length, getD, take, drop, length-append}
 use lib.Seq.{take-all, take-length, take-at, drop-append-add, drop-drop, paste, length-take-le}
 use Rattle.hazard.specs.Cover.{Network}
 use Rattle.hazard.specs.Minimal.{bytesOf}
-use Rattle.cube.specs.Entry.{careIn, valueIn}
+use Rattle.cube.specs.Entry.{careIn, valueIn, cubeIn, networkIn}
 use Rattle.cube.proofs.Digits.{length-digits}
-use Rattle.choice.specs.Network.{cubeIn, networkIn}
 use Rattle.choice.proofs.Firsts.{network-suc}
 
 bytes-snoc : (net : Network) (p : List ℕ) → bytesOf (net ++ (p ∷ [])) ≡ bytesOf net ++ p

@@ -5,10 +5,9 @@ use mathlib.Core.Option.{none, some}
 use Prim.Native.Nat.{ℕ, _≤_, _<_}
 use lib.ListN.{length, getD, take}
 use Rattle.hazard.specs.Implicant.{DhfPrime}
-use Rattle.cube.specs.Entry.{requiredIn, privilegedIn, CleanWord}
+use Rattle.cube.specs.Entry.{requiredIn, privilegedIn, CleanWord, cubeIn}
 use Rattle.cube.specs.PointSet.{inSet}
 use Rattle.problem.specs.Answer.{refusalOf}
-use Rattle.choice.specs.Network.{cubeIn}
 use Rattle.choice.specs.Keep.{Noted}
 use Rattle.minimiser.specs.Answer.{blockingOf}
 use Rattle.minimiser.specs.declared.network.Minimised.{Minimised}

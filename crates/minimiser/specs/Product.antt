@@ -10,10 +10,9 @@ use Rattle.hazard.specs.Implicant.{dhfImplicant, DhfPrime}
 use Rattle.hazard.specs.Minimal.{blockCheck}
 use Rattle.cube.specs.declared.mask.Cube.{Cube}
 use Rattle.cube.specs.Mask.{cubeOf, Clean}
-use Rattle.cube.specs.Entry.{requiredIn, privilegedIn}
+use Rattle.cube.specs.Entry.{requiredIn, privilegedIn, cubeIn}
 use Rattle.cube.specs.PointSet.{inSet}
 use Rattle.problem.specs.Answer.{refusalOf}
-use Rattle.choice.specs.Network.{cubeIn}
 use Rattle.minimiser.specs.declared.product.Made.{Made}
 use Rattle.minimiser.specs.declared.product.Made.the-variants.{Product, Blocked}
 

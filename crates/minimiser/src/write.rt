@@ -4,7 +4,7 @@ ghost use mathlib.Core.List.{_++_};
 ghost use Prim.Native.Nat.{_*_, _≤_};
 ghost use lib.ListN.{length, drop};
 ghost use Rattle.hazard.specs.Minimal.{bytesOf};
-ghost use Rattle.choice.specs.Network.{networkIn};
+ghost use Rattle.cube.specs.Entry.{networkIn};
 use cube::bytes::write_product;
 use cube::entry::cube_in;
 

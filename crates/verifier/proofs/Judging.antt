@@ -11,11 +11,10 @@ use Rattle.hazard.specs.Transition as transition
 use Rattle.hazard.specs.Sets.{Privileged, Required, privileged}
 use Rattle.hazard.specs.Cover.{Network}
 use Rattle.hazard.specs.Verdict as spec
-use Rattle.cube.specs.Entry.{privilegedIn, requiredIn, CleanWord}
+use Rattle.cube.specs.Entry.{privilegedIn, requiredIn, CleanWord, cubeIn, networkIn}
 use Rattle.cube.specs.PointSet.{inSet}
 use Rattle.cube.proofs.Word.{taken-clean}
 use Rattle.problem.specs.Store.{StoredSets}
-use Rattle.choice.specs.Network.{cubeIn, networkIn}
 use Rattle.verifier.specs.Network.{Sound, Read}
 use Rattle.hazard.proofs.Verdict.{products-length}
 

@@ -5,8 +5,8 @@ use Prim.Native.Nat.{ℕ, _<_}
 use lib.ListN.{length, getD}
 use Rattle.hazard.specs.Cover.{productAt}
 use Rattle.cube.specs.Mask.{cubeOf, Stands}
+use Rattle.cube.specs.Entry.{cubeIn, networkIn}
 use Rattle.cube.specs.declared.mask.Cube.{Cube}
-use Rattle.choice.specs.Network.{cubeIn, networkIn}
 use Rattle.choice.proofs.Firsts.{product-in}
 
 -- The masks read from word j stand for product j.

@@ -10,8 +10,7 @@ use lib.ListN.{length, getD, take, drop, set}
 use lib.Seq.{take-suc, take-suc-set, take-all, getD-set-same, getD-set-other}
 use Rattle.hazard.specs.Cover.{Network, productAt}
 use Rattle.hazard.specs.Verdict.{products}
-use Rattle.cube.specs.Entry.{CleanWord}
-use Rattle.choice.specs.Network.{cubeIn, networkIn}
+use Rattle.cube.specs.Entry.{CleanWord, cubeIn, networkIn}
 use Rattle.choice.proofs.Firsts.{map-append}
 use Rattle.verifier.specs.Network.{Read}
 use Rattle.hazard.proofs.Verdict.{products-length}

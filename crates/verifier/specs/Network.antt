@@ -8,8 +8,7 @@ use lib.ListN.{length, getD, take}
 use Rattle.hazard.specs.Cover.{WellFormed}
 use Rattle.hazard.specs.Refusal.{Refusal}
 use Rattle.hazard.specs.Verdict.{products}
-use Rattle.cube.specs.Entry.{CleanWord}
-use Rattle.choice.specs.Network.{networkIn}
+use Rattle.cube.specs.Entry.{CleanWord, networkIn}
 
 -- The test of check 11.
 abbrev pub misshapen : ℕ → ℕ → Bool

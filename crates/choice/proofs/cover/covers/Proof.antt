@@ -1,6 +1,6 @@
 use Rattle.choice.proofs.Covering.{covers-is}
-use Rattle.choice.specs.Network.{cubeIn}
 use Rattle.cube.specs.Mask.{cubeOf}
+use Rattle.cube.specs.Entry.{cubeIn}
 use native.Mathlib.Omega.{arith}
 use mathlib.Core.Path.{_≡_, _∙_}
 use borrow.Author.Needs.{needs}

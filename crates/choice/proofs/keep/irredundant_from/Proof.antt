@@ -4,7 +4,7 @@ use Prim.Native.Nat.{_-_, _*_, _≤_}
 use native.Mathlib.Omega.{arith}
 use lib.ListN.{length, getD, length-replicate}
 use Rattle.cube.specs.Mask.{cubeOf}
-use Rattle.choice.specs.Network.{cubeIn}
+use Rattle.cube.specs.Entry.{cubeIn}
 use Rattle.choice.specs.Flag.{Unflagged}
 use Rattle.choice.proofs.Flags.{unflagged-start, unflagged-low, flag-is, unflagged-next, product-test}
 use Rattle.choice.proofs.Keeping.{Keeping, keeping-start, keeping-turn, keeping-skip, keeping-keep, keeping-end}

@@ -17,6 +17,9 @@ add-column c = search needs
 column-requires : tie.Need-column-requires
 column-requires c κs = search needs
 
+add-column-2 : tie.Need-add-column-2
+add-column-2 c = search needs
+
 column-requires-2 : tie.Need-column-requires-2
 column-requires-2 c κs = search needs
 
@@ -26,11 +29,14 @@ inside-words-requires c κs = search needs
 enum-told-2 : tie.Need-enum-told-2
 enum-told-2 c = search needs
 
-add-column-2 : tie.Need-add-column-2
-add-column-2 c = search needs
+add-column-3 : tie.Need-add-column-3
+add-column-3 c = search needs
 
 column-requires-3 : tie.Need-column-requires-3
 column-requires-3 c κs = search needs
+
+add-column-4 : tie.Need-add-column-4
+add-column-4 c = search needs
 
 column-requires-4 : tie.Need-column-requires-4
 column-requires-4 c κs = search needs
@@ -41,11 +47,14 @@ meeting-words-requires c κs = search needs
 enum-told-3 : tie.Need-enum-told-3
 enum-told-3 c = search needs
 
-add-column-3 : tie.Need-add-column-3
-add-column-3 c = search needs
+add-column-5 : tie.Need-add-column-5
+add-column-5 c = search needs
 
 column-requires-5 : tie.Need-column-requires-5
 column-requires-5 c κs = search needs
+
+add-column-6 : tie.Need-add-column-6
+add-column-6 c = search needs
 
 column-requires-6 : tie.Need-column-requires-6
 column-requires-6 c κs = search needs
@@ -56,8 +65,8 @@ containing-words-requires c κs = search needs
 enum-told-4 : tie.Need-enum-told-4
 enum-told-4 c = search needs
 
-add-column-4 : tie.Need-add-column-4
-add-column-4 c = search needs
+add-column-7 : tie.Need-add-column-7
+add-column-7 c = search needs
 
 column-requires-7 : tie.Need-column-requires-7
 column-requires-7 c κs = search needs
@@ -92,20 +101,23 @@ allowed-at-spec =
     enum-told
     add-column
     column-requires
+    add-column-2
     column-requires-2
     inside-words-requires
     enum-told-2
-    add-column-2
+    add-column-3
     column-requires-3
+    add-column-4
     column-requires-4
     meeting-words-requires
     enum-told-3
-    add-column-3
+    add-column-5
     column-requires-5
+    add-column-6
     column-requires-6
     containing-words-requires
     enum-told-4
-    add-column-4
+    add-column-7
     column-requires-7
     inside-words-requires-2
     returns

@@ -7,7 +7,7 @@ use lib.ListN.{length, getD, length-set, length-replicate}
 use Rattle.hazard.specs.Cube.{inside}
 use Rattle.hazard.proofs.Test.{so-not, sure}
 use Rattle.cube.specs.Mask.{cubeOf}
-use Rattle.choice.specs.Network.{cubeIn}
+use Rattle.cube.specs.Entry.{cubeIn}
 use Rattle.choice.specs.Flag.{Unflagged}
 use Rattle.choice.proofs.Choosing.{choosing-start, choosing-skip, choosing-add}
 use Rattle.choice.proofs.Flags.{unflagged-start, unflagged-low, unflagged-next, taken-low, product-test}

@@ -2,11 +2,10 @@ use mathlib.Core.Path.{refl, sym, ap, _∙_, subst}
 use mathlib.Core.Option.{some}
 use lib.ListN.{getD}
 use Rattle.hazard.specs.Cube.{Cube}
-use Rattle.cube.specs.Entry.{requiredIn}
+use Rattle.cube.specs.Entry.{requiredIn, cubeIn}
 use Rattle.cube.proofs.Word.{stands-in}
 use Rattle.expand.specs.Answer.{Grows}
 use Rattle.expand.proofs.Outcome.{checked, blocked-refusal}
-use Rattle.choice.specs.Network.{cubeIn}
 use Rattle.minimiser.proofs.Products.{masks-digits, stage-legal, stage-prime}
 use borrow.Author.Needs.{needs}
 use Rattle.minimiser.proofs.product.product_for.Statement.{statement}

@@ -6,11 +6,11 @@ use borrow.Author.Needs.{needs}
 use Rattle.hazard.specs.Implicant.{lowestZero}
 use Rattle.hazard.specs.Cover.{productAt}
 use Rattle.hazard.specs.Verdict.{faultA}
+use Rattle.cube.specs.Entry.{cubeIn, networkIn}
 use Rattle.cube.specs.PointSet.{inSet}
 use Rattle.cube.proofs.Scan.{Places, places-start, places-hit, places-miss, places-end}
 use Rattle.cube.proofs.Word.{stands-in}
 use Rattle.points.specs.Found.{foundOf}
-use Rattle.choice.specs.Network.{cubeIn, networkIn}
 use Rattle.verifier.proofs.Looks.{product-read}
 use Rattle.verifier.proofs.fault.fault_a.Statement.{statement}
 use Rattle.verifier.proofs.fault.fault_a.Tie as tie

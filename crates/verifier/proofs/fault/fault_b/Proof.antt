@@ -8,9 +8,8 @@ use mathlib.Core.Bool.{not}
 use Rattle.hazard.specs.Sets.{Required}
 use Rattle.hazard.specs.Cover.{covered}
 use Rattle.hazard.specs.Verdict.{faultB}
-use Rattle.cube.specs.Entry.{requiredIn}
+use Rattle.cube.specs.Entry.{requiredIn, networkIn}
 use Rattle.cube.proofs.Left.{Left, left-start, left-end, find-hit, find-miss}
-use Rattle.choice.specs.Network.{networkIn}
 use Rattle.verifier.proofs.fault.fault_b.Statement.{statement}
 use Rattle.verifier.proofs.fault.fault_b.Tie as tie
 

@@ -10,11 +10,10 @@ use Rattle.hazard.specs.Sets.{Privileged}
 use Rattle.hazard.specs.Implicant.{illegal}
 use Rattle.hazard.specs.Cover.{productAt}
 use Rattle.hazard.specs.Verdict.{faultC}
-use Rattle.cube.specs.Entry.{privilegedIn}
+use Rattle.cube.specs.Entry.{privilegedIn, cubeIn, networkIn}
 use Rattle.cube.proofs.Scan.{Places, places-start, places-hit, places-miss, places-end}
 use Rattle.cube.proofs.Word.{stands-in}
 use Rattle.expand.specs.Answer.{metOf}
-use Rattle.choice.specs.Network.{cubeIn, networkIn}
 use Rattle.verifier.proofs.Looks.{product-read}
 use Rattle.verifier.proofs.fault.fault_c.Statement.{statement}
 use Rattle.verifier.proofs.fault.fault_c.Tie as tie
