@@ -5,12 +5,12 @@ ghost use Rattle.hazard.specs.Minimal.{Promise};
 ghost use Rattle.hazard.specs.Verdict.{fieldsOf};
 ghost use Rattle.problem.specs.Answer.{refusalOf};
 ghost use Rattle.minimiser.specs.Answer.{minimisedOf};
-ghost use Rattle.verifier.specs.Answer.{verdictOf};
+ghost use Rattle.conditions.specs.Answer.{verdictOf};
 ghost use Rattle.quiet_c.specs.Packed.{unpackedRefusal, unpackedAnswer, unpackedVerdict, ReadVerdict, RefusalFits, AnswerFits};
+use conditions::fault::Verdict;
 use minimiser::minimise::minimise;
 use minimiser::network::Minimised;
 use problem::refusal::Refusal;
-use verifier::fault::Verdict;
 use verifier::verify::verify;
 
 // A refusal of the minimiser.

@@ -9,8 +9,8 @@ use Rattle.hazard.specs.Refusal.{Refusal}
 use Rattle.hazard.proofs.Search.{firstOf-one}
 use Rattle.hazard.proofs.Test.{no-or, so-not}
 use borrow.Author.Needs.{needs}
-use Rattle.verifier.proofs.network.check_network.Statement.{statement}
-use Rattle.verifier.proofs.network.check_network.Tie as tie
+use Rattle.conditions.proofs.network.check_network.Statement.{statement}
+use Rattle.conditions.proofs.network.check_network.Tie as tie
 
 is-misshapen-requires : tie.Need-is-misshapen-requires
 is-misshapen-requires c κs = search needs

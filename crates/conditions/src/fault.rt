@@ -10,7 +10,7 @@ ghost use Rattle.expand.specs.Columns.{Columns};
 ghost use Rattle.expand.specs.Ready.{Ready};
 ghost use Rattle.choice.specs.Network.{networkIn};
 ghost use Rattle.choice.specs.Rows.{Containing};
-ghost use Rattle.verifier.specs.Answer.{placeOf, unmetOf, verdictOf};
+ghost use Rattle.conditions.specs.Answer.{placeOf, unmetOf, verdictOf};
 use choice::cover::covers;
 use cube::entry::cube_in;
 use cube::entry::point_in;

@@ -11,8 +11,8 @@ use Rattle.hazard.specs.Verdict.{faultB}
 use Rattle.cube.specs.Entry.{requiredIn}
 use Rattle.cube.proofs.Left.{Left, left-start, left-end, find-hit, find-miss}
 use Rattle.choice.specs.Network.{networkIn}
-use Rattle.verifier.proofs.fault.fault_b.Statement.{statement}
-use Rattle.verifier.proofs.fault.fault_b.Tie as tie
+use Rattle.conditions.proofs.fault.fault_b.Statement.{statement}
+use Rattle.conditions.proofs.fault.fault_b.Tie as tie
 
 abbrev Inv-loop : tie.InvT-loop
 Inv-loop n required products columns rows₀ k₀ rows k = (length rows ≡ length rows₀) × Left (λ l. faultB (map (requiredIn n) l) (networkIn n products)) required k

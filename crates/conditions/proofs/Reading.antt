@@ -13,9 +13,9 @@ use Rattle.hazard.specs.Verdict.{products}
 use Rattle.cube.specs.Entry.{CleanWord}
 use Rattle.choice.specs.Network.{cubeIn, networkIn}
 use Rattle.choice.proofs.Firsts.{map-append}
-use Rattle.verifier.specs.Network.{Read}
+use Rattle.conditions.specs.Network.{Read}
 use Rattle.hazard.proofs.Verdict.{products-length}
-use Rattle.verifier.proofs.Bytes.{products-at}
+use Rattle.conditions.proofs.Bytes.{products-at}
 
 pub record Reading (n : ℕ) (bytes words : List ℕ) (at j : ℕ) : Type 0 where
   pub place : at ≡ j * n

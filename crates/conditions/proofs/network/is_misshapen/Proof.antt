@@ -1,7 +1,7 @@
 use borrow.Author.Tests.{ne-eqb, eq-eqb}
 use borrow.Author.Needs.{needs}
-use Rattle.verifier.proofs.network.is_misshapen.Statement.{statement}
-use Rattle.verifier.proofs.network.is_misshapen.Tie as tie
+use Rattle.conditions.proofs.network.is_misshapen.Statement.{statement}
+use Rattle.conditions.proofs.network.is_misshapen.Tie as tie
 
 rem-if1 : tie.Need-rem-if1
 rem-if1 c = search needs

@@ -19,7 +19,7 @@ use Rattle.hazard.specs.Verdict.{cut, products, digitsCheck}
 use Rattle.hazard.proofs.Test.{T-and}
 use Rattle.hazard.proofs.Network.{entry-at}
 use Rattle.hazard.proofs.Verdict.{products-length}
-use Rattle.verifier.specs.Network.{badProduct, Sound}
+use Rattle.conditions.specs.Network.{badProduct, Sound}
 
 -- The product at a place is looked at digit by digit: at i the whole answer is that of the digits from i on.
 pub record Digitwise (n : ℕ) (bytes : List ℕ) (at i : ℕ) : Type 0 where

@@ -5,12 +5,12 @@ use Rattle.hazard.specs.Sets.{Required}
 use Rattle.hazard.specs.Verdict as spec
 use Rattle.cube.specs.Entry.{requiredIn}
 use Rattle.problem.specs.Answer.{refusalOf}
-use Rattle.verifier.specs.declared.fault.Place.{Place}
-use Rattle.verifier.specs.declared.fault.Place.the-variants as place
-use Rattle.verifier.specs.declared.fault.Unmet.{Unmet}
-use Rattle.verifier.specs.declared.fault.Unmet.the-variants as unmet
-use Rattle.verifier.specs.declared.fault.Verdict.{Verdict}
-use Rattle.verifier.specs.declared.fault.Verdict.the-variants.{Refused, Passed, HoldsZero, Intersects, Uncovered}
+use Rattle.conditions.specs.declared.fault.Place.{Place}
+use Rattle.conditions.specs.declared.fault.Place.the-variants as place
+use Rattle.conditions.specs.declared.fault.Unmet.{Unmet}
+use Rattle.conditions.specs.declared.fault.Unmet.the-variants as unmet
+use Rattle.conditions.specs.declared.fault.Verdict.{Verdict}
+use Rattle.conditions.specs.declared.fault.Verdict.the-variants.{Refused, Passed, HoldsZero, Intersects, Uncovered}
 
 abbrev pub placeOf : Place → Option (ℕ × ℕ)
 placeOf (place.At j x) = some (j, x)

@@ -8,7 +8,7 @@ ghost use Rattle.hazard.specs.Search.{firstOf};
 ghost use Rattle.hazard.specs.Cube.{isProduct};
 ghost use Rattle.hazard.specs.Verdict.{products, productsCheck, digitsCheck};
 ghost use Rattle.problem.specs.Answer.{refusalOf, checkedOf};
-ghost use Rattle.verifier.specs.Network.{misshapen, badProduct, Sound, Read};
+ghost use Rattle.conditions.specs.Network.{misshapen, badProduct, Sound, Read};
 use cube::bytes::product_at;
 use cube::entry::pack;
 use problem::refusal::Checked;

@@ -5,10 +5,10 @@ use lib.ListN.{length, length-set}
 use lib.Pow.{pow-pos}
 use borrow.Author.Needs.{needs}
 use Rattle.cube.proofs.Word.{packed-is, packed-clean}
-use Rattle.verifier.proofs.Bytes.{place-room, byte-le}
-use Rattle.verifier.proofs.Reading.{Reading, reading-start, reading-step, reading-end}
-use Rattle.verifier.proofs.network.read_network.Statement.{statement}
-use Rattle.verifier.proofs.network.read_network.Tie as tie
+use Rattle.conditions.proofs.Bytes.{place-room, byte-le}
+use Rattle.conditions.proofs.Reading.{Reading, reading-start, reading-step, reading-end}
+use Rattle.conditions.proofs.network.read_network.Statement.{statement}
+use Rattle.conditions.proofs.network.read_network.Tie as tie
 
 abbrev Inv-loop : tie.InvT-loop
 Inv-loop n bytes out₀ count at₀ j₀ out at j = Reading n bytes out at j × (length out ≡ length out₀)

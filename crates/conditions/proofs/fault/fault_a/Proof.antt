@@ -11,9 +11,9 @@ use Rattle.cube.proofs.Scan.{Places, places-start, places-hit, places-miss, pla
 use Rattle.cube.proofs.Word.{stands-in}
 use Rattle.problem.specs.Codes.{foundOf}
 use Rattle.choice.specs.Network.{cubeIn, networkIn}
-use Rattle.verifier.proofs.Looks.{product-read}
-use Rattle.verifier.proofs.fault.fault_a.Statement.{statement}
-use Rattle.verifier.proofs.fault.fault_a.Tie as tie
+use Rattle.conditions.proofs.Looks.{product-read}
+use Rattle.conditions.proofs.fault.fault_a.Statement.{statement}
+use Rattle.conditions.proofs.fault.fault_a.Tie as tie
 
 abbrev Inv-loop : tie.InvT-loop
 Inv-loop n off products j₀ j = Places (λ k. lowestZero n (inSet off) (productAt (networkIn n products) k)) (length (networkIn n products)) j (faultA n (inSet off) (networkIn n products))

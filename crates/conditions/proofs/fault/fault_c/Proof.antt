@@ -15,9 +15,9 @@ use Rattle.cube.proofs.Scan.{Places, places-start, places-hit, places-miss, pla
 use Rattle.cube.proofs.Word.{stands-in}
 use Rattle.expand.specs.Answer.{metOf}
 use Rattle.choice.specs.Network.{cubeIn, networkIn}
-use Rattle.verifier.proofs.Looks.{product-read}
-use Rattle.verifier.proofs.fault.fault_c.Statement.{statement}
-use Rattle.verifier.proofs.fault.fault_c.Tie as tie
+use Rattle.conditions.proofs.Looks.{product-read}
+use Rattle.conditions.proofs.fault.fault_c.Statement.{statement}
+use Rattle.conditions.proofs.fault.fault_c.Tie as tie
 
 abbrev Inv-loop : tie.InvT-loop
 Inv-loop n privileged legal products j₀ j = Places (λ k. Option·map (λ (v : Privileged). v .transition) (find (illegal (productAt (networkIn n products) k)) (map (privilegedIn n) privileged))) (length (networkIn n products)) j (faultC (map (privilegedIn n) privileged) (networkIn n products))

@@ -1,8 +1,8 @@
 use mathlib.Core.Path.{sym, ap, _∙_}
-use Rattle.verifier.specs.Answer.{placeOf, unmetOf}
+use Rattle.conditions.specs.Answer.{placeOf, unmetOf}
 use borrow.Author.Needs.{needs}
-use Rattle.verifier.proofs.fault.first_fault.Statement.{statement}
-use Rattle.verifier.proofs.fault.first_fault.Tie as tie
+use Rattle.conditions.proofs.fault.first_fault.Statement.{statement}
+use Rattle.conditions.proofs.fault.first_fault.Tie as tie
 
 fault-a-requires : tie.Need-fault-a-requires
 fault-a-requires c κs = search needs
