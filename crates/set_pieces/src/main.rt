@@ -3,8 +3,8 @@ ghost use Prim.Native.Nat.{_≤_};
 ghost use lib.ListN.{length};
 use conditions::fault::Verdict;
 use minimiser::minimise::minimise;
-use minimiser::network::Minimised;
 use problem::refusal::Refusal;
+use selection::minimised::Minimised;
 use verifier::verify::verify;
 
 // A space and a number.
