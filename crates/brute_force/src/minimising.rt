@@ -37,8 +37,8 @@ use crate::verifying::same_refusal;
 use crate::wires::Found;
 use crate::wires::hazard_free;
 use minimiser::minimise::minimise;
-use minimiser::network::Minimised;
 use problem::refusal::Refusal;
+use selection::minimised::Minimised;
 
 // What the buffer holds before the call.
 const MARK: u8 = 9;

@@ -24,8 +24,8 @@ use crate::network::Network;
 use crate::required::first_uncovered;
 use crate::wires::Found;
 use crate::wires::hazard_free;
+use conditions::fault::Verdict;
 use problem::refusal::Refusal;
-use verifier::fault::Verdict;
 use verifier::verify::verify;
 
 fn is_nothing(f: Fault) -> bool {

@@ -7,8 +7,8 @@ use crate::print::print_products;
 use crate::print::print_refusal;
 use crate::print::start_with;
 use minimiser::minimise::minimise;
-use minimiser::network::Minimised;
 use problem::refusal::Refusal;
+use selection::minimised::Minimised;
 use verifier::verify::verify;
 
 // No product has such a byte.

@@ -1,8 +1,7 @@
 -- From the answer for the stored sets to the minimiser's promise.
-use mathlib.Core.Path.{_≡_, refl, sym, ap, _∙_, subst}
-use mathlib.Core.Bool.{Bool}
+use mathlib.Core.Path.{_≡_, refl, sym, ap, _∙_}
 use mathlib.Core.List.{List, [], _∷_, _++_, map}
-use mathlib.Core.Option.{Option, none, some, Option·some-injective}
+use mathlib.Core.Option.{Option, none, some}
 use Prim.Native.Nat.{ℕ, _*_, _≤_, _<_}
 use native.Mathlib.Nat.{mul-comm, mul-le-mul, not-le-of-lt}
 use native.Mathlib.Omega.{arith}
@@ -12,36 +11,17 @@ use Rattle.hazard.specs.Search.{firstOf}
 use Rattle.hazard.specs.Transition as transition
 use Rattle.hazard.specs.Sets as sets
 use Rattle.hazard.specs.Refusal.{Refusal, refusal, inputChecks, Accepted}
-use Rattle.hazard.specs.Minimal.{roomCheck, blocking, minimiserChecks, Minimised, written, declined, bytesOf, Promise}
+use Rattle.hazard.specs.Minimal.{roomCheck, blocking, minimiserChecks, Minimised, declined, bytesOf, Promise}
 use Rattle.hazard.proofs.Search.{none-some, firstOf-left, firstOf-right, firstOf-one}
 use Rattle.hazard.proofs.Rules.{few-inputs, required-few}
 use Rattle.hazard.proofs.Minimal.{minimal}
 use Rattle.hazard.proofs.Promise.{promise-refused, promise-written}
 use Rattle.cube.specs.Entry.{requiredIn, privilegedIn}
 use Rattle.cube.specs.PointSet.{inSet}
-use Rattle.problem.specs.declared.refusal.Refusal as codes
 use Rattle.problem.specs.Store.{StoredSets}
 use Rattle.problem.proofs.Checks.{refuse-yes, refuse-no}
-use Rattle.minimiser.specs.Select.{Selected}
-use Rattle.minimiser.specs.Answer.{minimisedOf, blockingOf, Answered}
-use Rattle.minimiser.specs.Choose.{Choice}
-use Rattle.minimiser.specs.declared.network.Minimised as code
-use Rattle.minimiser.specs.declared.network.Minimised.the-variants as variants
-
--- The answer, of each way to end.
-module _ (n : ℕ) (off : ℕ → Bool) (vs : List sets.Privileged) (rs : List sets.Required) where
-  pub answered-refused : {q : Refusal} (before : List ℕ) → blockingOf n off vs rs ≡ some q → Answered n off vs rs before before (declined q)
-  answered-refused {q} before e =
-      record { refused = λ p h. (ap declined (Option·some-injective q p (sym e ∙ h)), refl); network = λ h. none-some (sym h ∙ e) }
-
-  pub answered-written : {before after : List ℕ} {k : ℕ} → blockingOf n off vs rs ≡ none → Selected n off vs rs before after k → Answered n off vs rs before after (written k)
-  answered-written {k = k} e s = record { refused = λ p h. none-some (sym e ∙ h); network = λ h. (k, refl, s) }
-
--- The choice's refusal is the answer.
-pub choice-refused : (n : ℕ) (off privileged required firsts products before : List ℕ) {r : code.Minimised} {q : codes.Refusal} → Choice n off privileged required firsts products r → r ≡ variants.Refused q
-    → Answered n (inSet off) (map (privilegedIn n) privileged) (map (requiredIn n) required) before before (minimisedOf r)
-choice-refused n off privileged required firsts products before h e =
-    rw e (answered-refused n (inSet off) (map (privilegedIn n) privileged) (map (requiredIn n) required) before (subst (Choice n off privileged required firsts products) e h))
+use Rattle.selection.specs.Answer.{Answered}
+use Rattle.selection.proofs.Answering.{refused-kept}
 
 -- The stored sets are the problem's.
 module _ {n : ℕ} {f ts off vs rs : List ℕ} {p r : ℕ} (s : StoredSets n f ts off vs rs p r) where
@@ -93,7 +73,7 @@ module _ (n : ℕ) (f ts before : List ℕ) where
         checks = firstOf-right (inputChecks n f ts) late ok ∙ firstOf-right (roomCheck n f ts (length before) ∷ []) (blocking n f ts ∷ []) (firstOf-one (roomCheck n f ts (length before)) ∙ none-room) ∙ firstOf-one (blocking n f ts)
 
         go : (o : Option Refusal) → blocking n f ts ≡ o → Promise n f ts before after a
-        go (some q) e = let (p, u) = h .refused q e in rw (p, u) (promise-refused n f ts before (checks ∙ e))
+        go (some q) e = rw (h .refused q e .0, refused-kept n (transition.off f) (sets.privileged n f ts) (sets.required n f ts) h e) (promise-refused n f ts before (checks ∙ e))
         go none e =
             let (k, p, s) = h .network e in
             rw (p, s .size) (promise-written n f ts before (s .net) (checks ∙ e)

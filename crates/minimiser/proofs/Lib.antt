@@ -1,6 +1,2 @@
-pub mod Products
-pub mod Choices
-pub mod Writing
-pub mod Selecting
 pub mod Rooms
 pub mod Answering

@@ -1,5 +1,1 @@
-pub mod Product
-pub mod Choose
-pub mod Select
 pub mod Room
-pub mod Answer

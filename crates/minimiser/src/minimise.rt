@@ -5,12 +5,12 @@ ghost use Rattle.hazard.specs.Minimal.{Promise};
 ghost use Rattle.hazard.specs.Refusal.{Accepted};
 ghost use Rattle.hazard.specs.Sets.{required};
 ghost use Rattle.points.specs.Plane.{Plane};
-ghost use Rattle.minimiser.specs.Answer.{minimisedOf};
-use crate::network::Minimised;
+ghost use Rattle.selection.specs.Answer.{minimisedOf};
 use crate::network::network_into;
 use problem::check::Counted;
 use problem::check::check;
 use problem::refusal::refuse;
+use selection::minimised::Minimised;
 
 // Check 9, and the network, of a problem that the input rules accept: its required cubes are counted, and `off` and `ones` are its planes
 // of 0 and of 1.

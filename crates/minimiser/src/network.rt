@@ -6,20 +6,14 @@ ghost use Rattle.hazard.specs.Sets as sets;
 ghost use Rattle.hazard.specs.Transition as transition;
 ghost use Rattle.points.specs.Plane.{Plane};
 ghost use Rattle.problem.specs.Ready.{Ready};
+ghost use Rattle.selection.specs.Answer.{minimisedOf, Answered};
 ghost use Rattle.minimiser.specs.Room.{Room, Columns};
-ghost use Rattle.minimiser.specs.Answer.{minimisedOf, Answered};
-use crate::select::select;
 use blocks::fill::blocks_into;
 use columns::relation::Relation;
 use expand::meeting::columns_into;
-use problem::refusal::Refusal;
 use problem::sets::sets_into;
-
-// How many products there are, or why there are none.
-pub enum Minimised {
-    Products(usize),
-    Refused(Refusal),
-}
+use selection::minimised::Minimised;
+use selection::select::select;
 
 // The problem's sets are stored in the lent room, and covered. `off` and `ones` are the table's planes of 0 and of 1.
 fn cover_with(

@@ -4,13 +4,13 @@ ghost use Prim.Native.Nat.{_<_};
 ghost use Rattle.hazard.specs.Minimal.{Promise};
 ghost use Rattle.hazard.specs.Verdict.{fieldsOf};
 ghost use Rattle.problem.specs.Answer.{refusalOf};
-ghost use Rattle.minimiser.specs.Answer.{minimisedOf};
-ghost use Rattle.verifier.specs.Answer.{verdictOf};
+ghost use Rattle.selection.specs.Answer.{minimisedOf};
+ghost use Rattle.conditions.specs.Answer.{verdictOf};
 ghost use Rattle.quiet_c.specs.Packed.{unpackedRefusal, unpackedAnswer, unpackedVerdict, ReadVerdict, RefusalFits, AnswerFits};
+use conditions::fault::Verdict;
 use minimiser::minimise::minimise;
-use minimiser::network::Minimised;
 use problem::refusal::Refusal;
-use verifier::fault::Verdict;
+use selection::minimised::Minimised;
 use verifier::verify::verify;
 
 // A refusal of the minimiser.

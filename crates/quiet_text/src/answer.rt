@@ -6,10 +6,10 @@ ghost use Rattle.quiet_text.specs.Answer.{writtenOf, Solved, Replied};
 use answer_text::reply::put_network;
 use answer_text::reply::put_refusal;
 use minimiser::minimise::minimise;
-use minimiser::network::Minimised;
 use problem::refusal::refuse;
 use problem_text::read::Read;
 use problem_text::read::read_problem;
+use selection::minimised::Minimised;
 
 // How many bytes of the buffer are the output; or the buffer is too short for every output, and is left as it was.
 pub enum Output {

@@ -1,10 +1,10 @@
 // The twelve set pieces, run through both calls.
 ghost use Prim.Native.Nat.{_≤_};
 ghost use lib.ListN.{length};
+use conditions::fault::Verdict;
 use minimiser::minimise::minimise;
-use minimiser::network::Minimised;
 use problem::refusal::Refusal;
-use verifier::fault::Verdict;
+use selection::minimised::Minimised;
 use verifier::verify::verify;
 
 // A space and a number.

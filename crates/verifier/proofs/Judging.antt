@@ -15,7 +15,7 @@ use Rattle.cube.specs.Entry.{privilegedIn, requiredIn, CleanWord, cubeIn, netwo
 use Rattle.cube.specs.PointSet.{inSet}
 use Rattle.cube.proofs.Word.{taken-clean}
 use Rattle.problem.specs.Store.{StoredSets}
-use Rattle.verifier.specs.Network.{Sound, Read}
+use Rattle.conditions.specs.Network.{Sound, Read}
 use Rattle.hazard.proofs.Verdict.{products-length}
 
 -- A part from 0 has no more words than the whole.

@@ -1,5 +1,2 @@
-pub mod Bytes
-pub mod Reading
-pub mod Looks
 pub mod Judging
 pub mod Verifying

@@ -14,7 +14,7 @@ use Rattle.hazard.proofs.Test.{no-or, sure}
 use Rattle.hazard.proofs.Search.{firstOf-none, firstOf-left, firstOf-right}
 use Rattle.hazard.proofs.Rules.{lets, few-inputs}
 use Rattle.hazard.proofs.Verdict.{verified, checked-well-formed}
-use Rattle.verifier.specs.Network.{Sound}
+use Rattle.conditions.specs.Network.{Sound}
 
 -- The verdict that a refusal, or none, leads to.
 abbrev judgement : ℕ → List ℕ → List ℕ → List ℕ → Option Refusal → Verdict

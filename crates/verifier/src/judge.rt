@@ -6,13 +6,13 @@ ghost use Rattle.hazard.specs.Sets as sets;
 ghost use Rattle.hazard.specs.Verdict as spec;
 ghost use Rattle.points.specs.Plane.{Plane};
 ghost use Rattle.problem.specs.Ready.{Ready};
-ghost use Rattle.verifier.specs.Answer.{verdictOf};
-ghost use Rattle.verifier.specs.Network.{Sound};
-use crate::fault::Verdict;
-use crate::fault::first_fault;
-use crate::network::read_network;
+ghost use Rattle.conditions.specs.Answer.{verdictOf};
+ghost use Rattle.conditions.specs.Network.{Sound};
 use blocks::fill::blocks_into;
 use columns::relation::Relation;
+use conditions::fault::Verdict;
+use conditions::fault::first_fault;
+use conditions::network::read_network;
 use expand::meeting::columns_into;
 use problem::sets::sets_into;
 

@@ -2,8 +2,8 @@ use mathlib.Core.Path.{sym, ap, subst, _∙_}
 use Prim.Native.Nat.{_<_}
 use borrow.Author.Needs.{needs}
 use Rattle.problem.specs.Answer.{refusalOf}
-use Rattle.minimiser.specs.Answer.{minimisedOf}
-use Rattle.minimiser.specs.declared.network.Minimised.{Minimised}
+use Rattle.selection.specs.Answer.{minimisedOf}
+use Rattle.selection.specs.declared.minimised.Minimised.{Minimised}
 use Rattle.quiet_c.specs.Packed.{RefusalFits, AnswerFits}
 use Rattle.quiet_c.proofs.Exact.{written-exact, declined-exact}
 use Rattle.quiet_c.proofs.packed_answer.Statement.{statement}

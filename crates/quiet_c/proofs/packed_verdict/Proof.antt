@@ -2,8 +2,8 @@ use mathlib.Core.Path.{sym, ap, subst, _∙_}
 use Prim.Native.Nat.{_<_}
 use borrow.Author.Needs.{needs}
 use Rattle.hazard.specs.Verdict.{fieldsOf}
-use Rattle.verifier.specs.Answer.{verdictOf}
-use Rattle.verifier.specs.declared.fault.Verdict.{Verdict}
+use Rattle.conditions.specs.Answer.{verdictOf}
+use Rattle.conditions.specs.declared.fault.Verdict.{Verdict}
 use Rattle.quiet_c.proofs.packed_verdict.Statement.{statement}
 use Rattle.quiet_c.proofs.packed_verdict.Tie as tie
 

@@ -1,5 +1,5 @@
 use borrow.Author.Needs.{needs}
-use Rattle.verifier.specs.Answer.{verdictOf}
+use Rattle.conditions.specs.Answer.{verdictOf}
 use Rattle.quiet_c.proofs.Exact.{verified-fits}
 use Rattle.quiet_c.proofs.quiet_verify.Statement.{statement}
 use Rattle.quiet_c.proofs.quiet_verify.Tie as tie

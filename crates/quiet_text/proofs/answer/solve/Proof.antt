@@ -4,8 +4,8 @@ use denote.Ref.{now}
 use borrow.Author.Needs.{needs}
 use Rattle.hazard.specs.Minimal as minimal
 use Rattle.problem.specs.Answer.{refusalOf}
-use Rattle.minimiser.specs.Answer.{minimisedOf}
-use Rattle.minimiser.specs.declared.network.Minimised.{Minimised}
+use Rattle.selection.specs.Answer.{minimisedOf}
+use Rattle.selection.specs.declared.minimised.Minimised.{Minimised}
 use Rattle.quiet_text.proofs.Solving.{network-room, solved-refused, solved-written, printed-from, refusal-length}
 use Rattle.quiet_text.proofs.answer.solve.Statement.{statement}
 use Rattle.quiet_text.proofs.answer.solve.Tie as tie

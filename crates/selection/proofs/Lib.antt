@@ -1,0 +1,5 @@
+pub mod Products
+pub mod Choices
+pub mod Writing
+pub mod Selecting
+pub mod Answering

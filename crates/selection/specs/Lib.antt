@@ -1,0 +1,4 @@
+pub mod Product
+pub mod Choose
+pub mod Select
+pub mod Answer

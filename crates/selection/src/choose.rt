@@ -1,0 +1,60 @@
+// The forward choice: products until every required cube lies in one.
+ghost use mathlib.Core.Path.{_≡_};
+ghost use Prim.Native.Nat.{ℕ, _*_, _≤_, _<_};
+ghost use lib.ListN.{length, getD};
+ghost use Rattle.cube.specs.Entry.{CleanWord};
+ghost use Rattle.points.specs.Ready.{Ready};
+ghost use Rattle.expand.specs.Columns.{Columns};
+ghost use Rattle.choice.specs.Rows.{Inside};
+ghost use Rattle.selection.specs.Choose.{Choice};
+use crate::minimised::Minimised;
+use crate::product::Made;
+use crate::product::product_for;
+use blocks::whole::whole_into;
+use choice::first::note;
+use choice::flag::flag_product;
+use cube::entry::pack;
+
+// For each required cube whose flag is not set, the product for it is chosen, and those in it are flagged. One that lies in a product
+// cannot block, so the first that blocks is found on the way. `columns` has the required cubes for its rows; `uncovered` is the set of
+// those not flagged, and `taken` is room for a set.
+pub fn choose(
+    n: usize,
+    off: &[u64],
+    privileged: &[u64],
+    legal: &[u64],
+    required: &[u64],
+    columns: &[u64],
+    uncovered: &mut [u64],
+    taken: &mut [u64],
+    firsts: &mut [u16],
+    products: &mut [u64],
+) -> Minimised
+    requires { ⌜ Ready n (now off) × Columns n (now privileged) (now legal) × (length (now required) ≤ 2048) × (length (now firsts) ≡ length (now required)) × (length (now required) ≤ length (now products)) ⌝ }
+    requires { ⌜ Inside n (now required) (now columns) × (length (now uncovered) ≤ 32) × (length (now required) ≤ 64 * length (now uncovered)) × (length (now taken) ≡ length (now uncovered)) ⌝ }
+    requires { ⌜ ((k : ℕ) → CleanWord n (getD (now required) k 0)) ⌝ }
+    ensures { λ r. ⌜ Choice n (now (off .entry)) (now (privileged .entry)) (now (required .entry)) (now (firsts .exit)) (now (products .exit)) r ⌝ }
+{
+    let mut flags = [false; 2048];
+    whole_into(required.len(), uncovered);
+    let mut m = 0;
+    let mut i = 0;
+    while i < required.len() {
+        let r = i;
+        i += 1;
+        if !flags[r] {
+            let made = product_for(n, off, privileged, legal, required, columns, uncovered, r);
+            match made {
+                Made::Blocked(q) => return Minimised::Refused(q),
+                Made::Product(c) => {
+                    // The word carries the place of the required cube that the product is for.
+                    products[m] = pack(r as u16, 0, c);
+                    flag_product(n, columns, c, uncovered, taken, &mut flags);
+                    note(firsts, taken, m as u16);
+                    m += 1;
+                }
+            }
+        }
+    }
+    Minimised::Products(m)
+}

@@ -1,0 +1,119 @@
+// The product that is chosen for a required cube.
+ghost use mathlib.Core.Path.{_≡_};
+ghost use mathlib.Core.List.{map};
+ghost use Prim.Native.Nat.{ℕ, _*_, _≤_, _<_};
+ghost use lib.Dec.{T};
+ghost use lib.ListN.{length, getD};
+ghost use Rattle.hazard.specs.Implicant.{dhfImplicant};
+ghost use Rattle.cube.specs.Mask.{cubeOf, Clean};
+ghost use Rattle.cube.specs.Entry.{privilegedIn, CleanWord};
+ghost use Rattle.cube.specs.PointSet.{inSet};
+ghost use Rattle.points.specs.Ready.{Ready};
+ghost use Rattle.expand.specs.Columns.{Columns};
+ghost use Rattle.selection.specs.Product.{Over, PrimeOver, MadeFor};
+use crate::near::near;
+use blocks::member::without_lowest;
+use cube::entry::cube_in;
+use cube::mask::Cube;
+use cube::mask::lies_inside;
+use expand::blocking::refusal_of;
+use expand::growth::Grown;
+use expand::growth::grow;
+use expand::prime::absorbed;
+use expand::prime::expanded;
+use problem::refusal::Refusal;
+
+// The cube grown over required cube k, where that ends legal; nothing to do where it lies inside already.
+fn grown_over(
+    n: usize,
+    off: &[u64],
+    privileged: &[u64],
+    legal: &[u64],
+    required: &[u64],
+    c: Cube,
+    k: usize,
+) -> Cube
+    requires { ⌜ Ready n (now off) × Columns n (now privileged) (now legal) ⌝ }
+    requires { ⌜ Clean n c ⌝ }
+    ensures { λ r. ⌜ Over n (now (off .entry)) (now (privileged .entry)) c r ⌝ }
+{
+    if required.len() <= k {
+        return c;
+    }
+    let d = cube_in(required[k]);
+    if lies_inside(d, c) {
+        return c;
+    }
+    absorbed(n, off, privileged, legal, c, d)
+}
+
+// A dhf-prime around the dhf-implicant c, which was made for required cube i. On the way c is grown over required cubes near it, where that
+// stays legal: those of the same block of 64 that are not covered yet. That makes for fewer products, and no promise rests on it. `columns`
+// has the required cubes for its rows, and `uncovered` is the set of those not covered.
+fn widened(
+    n: usize,
+    off: &[u64],
+    privileged: &[u64],
+    legal: &[u64],
+    required: &[u64],
+    columns: &[u64],
+    uncovered: &[u64],
+    i: usize,
+    c: Cube,
+) -> Cube
+    requires { ⌜ Ready n (now off) × Columns n (now privileged) (now legal) ⌝ }
+    requires { ⌜ (length (now columns) ≡ 960) × (length (now uncovered) ≤ 32) × (i < 64 * length (now uncovered)) ⌝ }
+    requires { ⌜ T (dhfImplicant n (inSet (now off)) (map (privilegedIn n) (now privileged)) (cubeOf n c)) × Clean n c ⌝ }
+    ensures { λ r. ⌜ PrimeOver n (now (off .entry)) (now (privileged .entry)) (cubeOf n c) r ⌝ }
+{
+    let b = i / 64;
+    let mut p = c;
+    let mut tries = uncovered[b] & near(n, columns, b, c);
+    while tries != 0 {
+        let k = 64 * b + u64::trailing_zeros(tries) as usize;
+        p = grown_over(n, off, privileged, legal, required, p, k);
+        tries = without_lowest(tries);
+    }
+    expanded(n, off, privileged, legal, p)
+}
+
+// What is made for a required cube: its product, or its refusal.
+pub enum Made {
+    Product(Cube),
+    Blocked(Refusal),
+}
+
+// Supercube-dhf of required cube i, widened; or refusal 10, where its growth ends blocked.
+pub fn product_for(
+    n: usize,
+    off: &[u64],
+    privileged: &[u64],
+    legal: &[u64],
+    required: &[u64],
+    columns: &[u64],
+    uncovered: &[u64],
+    i: usize,
+) -> Made
+    requires { ⌜ Ready n (now off) × Columns n (now privileged) (now legal) × (i < length (now required)) ⌝ }
+    requires { ⌜ (length (now columns) ≡ 960) × (length (now uncovered) ≤ 32) × (i < 64 * length (now uncovered)) ⌝ }
+    requires { ⌜ ((k : ℕ) → CleanWord n (getD (now required) k 0)) ⌝ }
+    ensures { λ r. ⌜ MadeFor n (now (off .entry)) (now (privileged .entry)) (getD (now (required .entry)) i 0) r ⌝ }
+{
+    let w = required[i];
+    let cube = cube_in(w);
+    let grown = grow(n, off, privileged, legal, cube);
+    let Grown::Legal(c, _) = grown else {
+        return Made::Blocked(refusal_of(w, grown));
+    };
+    Made::Product(widened(
+        n,
+        off,
+        privileged,
+        legal,
+        required,
+        columns,
+        uncovered,
+        i,
+        c,
+    ))
+}
