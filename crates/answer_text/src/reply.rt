@@ -3,7 +3,7 @@ ghost use Prim.Native.Nat.{_*_, _≤_};
 ghost use mathlib.Core.List.{_∷_, _++_};
 ghost use lib.ListN.{length};
 ghost use Rattle.hazard.specs.Verdict.{cut};
-ghost use Rattle.problem.specs.Answer.{refusalOf};
+ghost use Rattle.refusal.specs.Answer.{refusalOf};
 ghost use Rattle.problem_text.specs.Decimal.{decimal};
 ghost use Rattle.problem_text.specs.Form.{newline};
 ghost use Rattle.answer_text.specs.Output.{productsHead, productLines, refusalText};
@@ -12,7 +12,7 @@ use crate::put::put_bytes;
 use crate::put::put_field;
 use crate::put::put_number;
 use crate::put::put_products;
-use problem::refusal::Refusal;
+use refusal::refusal::Refusal;
 
 // The number and the fields of a refusal.
 pub fn put_refusal(r: Refusal, out: &mut [u8]) -> usize

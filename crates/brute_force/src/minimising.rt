@@ -37,7 +37,7 @@ use crate::verifying::same_refusal;
 use crate::wires::Found;
 use crate::wires::hazard_free;
 use minimiser::minimise::minimise;
-use problem::refusal::Refusal;
+use refusal::refusal::Refusal;
 use selection::minimised::Minimised;
 
 // What the buffer holds before the call.

@@ -13,7 +13,7 @@ use crate::network::Product;
 use crate::network::has;
 use crate::network::points;
 use crate::network::product_at;
-use problem::refusal::Refusal;
+use refusal::refusal::Refusal;
 
 // Whether x labels a required cube of transition k.
 fn is_label(p: Instance, k: u64, x: u64) -> bool {

@@ -25,7 +25,7 @@ use crate::required::first_uncovered;
 use crate::wires::Found;
 use crate::wires::hazard_free;
 use conditions::fault::Verdict;
-use problem::refusal::Refusal;
+use refusal::refusal::Refusal;
 use verifier::verify::verify;
 
 fn is_nothing(f: Fault) -> bool {

@@ -1,21 +1,17 @@
 -- What the checks say, one after another, and what they leave of a problem.
-use mathlib.Core.Path.{_≡_, sym, ap, subst, _∙_}
-use mathlib.Core.Logic.{inl, inr}
-use mathlib.Core.Bool.{Bool, true, false, _||_}
+use mathlib.Core.Path.{_≡_, sym, subst, _∙_}
 use mathlib.Core.List.{List, [], _∷_, _++_, List·Memᴰ}
 use mathlib.Core.Option.{Option, none, some}
 use Prim.Native.Nat.{ℕ, _+_, _*_, _/_, _%_, _^_, _≤_, _<_}
 use native.Mathlib.Omega.{arith}
 use native.Mathlib.Decide.{ℕ-discrete, decLt}
-use lib.Dec.{T}
 use lib.ListN.{length, getD, List·getD-eq-default}
 use lib.Pow.{pow-pos, pow-mono}
 use Rattle.hazard.specs.Search.{firstOf}
 use Rattle.hazard.specs.Transition.{start, end, count}
 use Rattle.hazard.specs.Refusal as spec
 use Rattle.hazard.specs.Sets.{required}
-use Rattle.hazard.proofs.Test.{or-e}
-use Rattle.hazard.proofs.Search.{firstOf-none, entries, firstOf-one, firstOf-left, firstOf-right, firstOf-append}
+use Rattle.hazard.proofs.Search.{firstOf-none, entries, firstOf-append}
 use Rattle.hazard.proofs.Rules.{inputs-few, length-whole, list-few, ends-within}
 use Rattle.points.specs.Plane.{Plane}
 use Rattle.sets.specs.Ready.{Ready, Listed}
@@ -24,16 +20,6 @@ use Rattle.refusal.specs.declared.refusal.Refusal.{Refusal}
 use Rattle.checks.specs.Answer.{formChecks, CountedBy, Answer}
 use Rattle.checks.specs.declared.many.Counted.{Counted}
 use Rattle.checks.specs.declared.many.Counted.the-variants as counted
-
--- One of two tests, and neither.
-pub or-true : (a b : Bool) → a ≡ true → (a || b) ≡ true
-or-true a b e = rw e
-
-pub or-false : (a b : Bool) → a ≡ false → (a || b) ≡ b
-or-false a b e = rw e
-
-pub neither : (a b : Bool) → ¬ T a → ¬ T b → ¬ T (a || b)
-neither a b p q t = elim (or-e a b t) [ inl u ↦ p u | inr u ↦ q u ]
 
 -- A table of at most 10 inputs.
 pub ready-few : {n : ℕ} {f ts : List ℕ} → Ready n f ts → length f ≤ 1024

@@ -14,12 +14,12 @@ use borrow.Author.Tests.{lt-leb, le-leb}
 use Rattle.hazard.specs.Cube.{isProduct}
 use Rattle.hazard.specs.Cover.{productAt}
 use Rattle.hazard.specs.Search.{first}
-use Rattle.hazard.specs.Refusal.{Refusal}
+use Rattle.hazard.specs.Refusal.{Refusal, productRefusal}
 use Rattle.hazard.specs.Verdict.{cut, products, digitsCheck}
 use Rattle.hazard.proofs.Test.{T-and}
 use Rattle.hazard.proofs.Network.{entry-at}
 use Rattle.hazard.proofs.Verdict.{products-length}
-use Rattle.conditions.specs.Network.{badProduct, Sound}
+use Rattle.conditions.specs.Network.{Sound}
 
 -- The product at a place is looked at digit by digit: at i the whole answer is that of the digits from i on.
 pub record Digitwise (n : ℕ) (bytes : List ℕ) (at i : ℕ) : Type 0 where
@@ -75,14 +75,14 @@ pub place-next : (n at j : ℕ) → at ≡ j * n → at + n ≡ (j + 1) * n
 place-next n at j e = rw (e, add-one) (sym (suc-mul j n))
 
 -- Check 12 by the places of the products.
-digits-check : (n : ℕ) (bytes : List ℕ) → digitsCheck n (products n bytes) ≡ Option·map badProduct (first (badAt n bytes) 0 (length bytes / n))
-digits-check n bytes = ap (λ (k : ℕ). Option·map badProduct (first (badAt n bytes) 0 k)) (products-length n bytes)
+digits-check : (n : ℕ) (bytes : List ℕ) → digitsCheck n (products n bytes) ≡ Option·map (productRefusal 12) (first (badAt n bytes) 0 (length bytes / n))
+digits-check n bytes = ap (λ (k : ℕ). Option·map (productRefusal 12) (first (badAt n bytes) 0 k)) (products-length n bytes)
 
-pub digits-found : (n : ℕ) (bytes : List ℕ) {j : ℕ} {r : Refusal} → r ≡ badProduct j → some j ≡ first (badAt n bytes) 0 (length bytes / n) → _≡_ {A = Option Refusal} (some r) (digitsCheck n (products n bytes))
-digits-found n bytes {j} {r} q e = ap {B = Option Refusal} some q ∙ ap (Option·map badProduct) e ∙ sym (digits-check n bytes)
+pub digits-found : (n : ℕ) (bytes : List ℕ) {j : ℕ} {r : Refusal} → r ≡ productRefusal 12 j → some j ≡ first (badAt n bytes) 0 (length bytes / n) → _≡_ {A = Option Refusal} (some r) (digitsCheck n (products n bytes))
+digits-found n bytes {j} {r} q e = ap {B = Option Refusal} some q ∙ ap (Option·map (productRefusal 12)) e ∙ sym (digits-check n bytes)
 
 pub digits-none : (n : ℕ) (bytes : List ℕ) → none ≡ first (badAt n bytes) 0 (length bytes / n) → _≡_ {A = Option Refusal} none (digitsCheck n (products n bytes))
-digits-none n bytes e = ap (Option·map badProduct) e ∙ sym (digits-check n bytes)
+digits-none n bytes e = ap (Option·map (productRefusal 12)) e ∙ sym (digits-check n bytes)
 
 -- The bytes of a product are at most 2.
 digit-le : (n : ℕ) (l : List ℕ) (i : ℕ) → T (isProduct n l) → i < n → getD l i 0 ≤ 2

@@ -4,7 +4,7 @@ use Prim.Native.Nat.{ℕ}
 use Rattle.hazard.specs.Sets.{Required}
 use Rattle.hazard.specs.Verdict as spec
 use Rattle.cube.specs.Entry.{requiredIn}
-use Rattle.problem.specs.Answer.{refusalOf}
+use Rattle.refusal.specs.Answer.{refusalOf}
 use Rattle.conditions.specs.declared.fault.Place.{Place}
 use Rattle.conditions.specs.declared.fault.Place.the-variants as place
 use Rattle.conditions.specs.declared.fault.Unmet.{Unmet}

@@ -18,7 +18,7 @@ use expand::meeting::Met;
 use expand::meeting::first_illegal;
 use points::lowest::Found;
 use points::lowest::lowest_in;
-use problem::refusal::Refusal;
+use refusal::refusal::Refusal;
 
 // A product with a point or a transition, or none.
 pub enum Place {

@@ -7,7 +7,7 @@ use crate::print::print_products;
 use crate::print::print_refusal;
 use crate::print::start_with;
 use minimiser::minimise::minimise;
-use problem::refusal::Refusal;
+use refusal::refusal::Refusal;
 use selection::minimised::Minimised;
 use verifier::verify::verify;
 

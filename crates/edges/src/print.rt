@@ -1,6 +1,6 @@
 // How answers are printed.
 use conditions::fault::Verdict;
-use problem::refusal::Refusal;
+use refusal::refusal::Refusal;
 
 // A space and a number.
 fn print_number(x: u16) {

@@ -5,7 +5,7 @@ use mathlib.Core.Option.{Option, none, some}
 use Prim.Native.Nat.{ℕ, _≤_}
 use Rattle.hazard.specs.Cube as digits
 use Rattle.hazard.specs.Sets.{Required, Privileged}
-use Rattle.hazard.specs.Refusal.{Refusal}
+use Rattle.hazard.specs.Refusal.{Refusal, growthRefusal}
 use Rattle.hazard.specs.Growth as spec
 use Rattle.cube.specs.Mask.{cubeOf, Clean}
 use Rattle.cube.specs.Entry.{privilegedIn}
@@ -30,7 +30,7 @@ zeroOf (spec.Blocked z s) = z
 
 -- Refusal 10 for a required cube whose growth ended so.
 abbrev pub blockRefusal : Required → spec.Growth → Refusal
-blockRefusal r g = record { number = 10; transition = r .transition; point = r .label; steps = spec.steps g; lowest = zeroOf g; product = 0 }
+blockRefusal r g = growthRefusal 10 (r .transition) (r .label) (spec.steps g) (zeroOf g)
 
 -- The masks of a legal answer are those of a cube of n inputs.
 abbrev pub LegalClean : ℕ → Grown → Type 0

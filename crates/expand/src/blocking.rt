@@ -2,13 +2,14 @@
 ghost use mathlib.Core.Path.{_≡_};
 ghost use Prim.Native.Nat.{ℕ};
 ghost use Rattle.cube.specs.Entry.{requiredIn};
-ghost use Rattle.problem.specs.Answer.{refusalOf};
+ghost use Rattle.refusal.specs.Answer.{refusalOf};
 ghost use Rattle.hazard.specs.Growth.{steps};
 ghost use Rattle.expand.specs.Answer.{grownOf, zeroOf, blockRefusal};
 use crate::growth::Grown;
 use cube::entry::point_in;
 use cube::entry::transition_in;
-use problem::refusal::Refusal;
+use refusal::refusal::Refusal;
+use refusal::refusal::refuse_growth;
 
 // The zero that growth ended at; 0 where it ended legal.
 fn zero_of(grown: Grown) -> u16
@@ -34,12 +35,11 @@ fn steps_of(grown: Grown) -> u16
 pub fn refusal_of(w: u64, grown: Grown) -> Refusal
     ensures { λ r. ⌜ ((n : ℕ) → refusalOf r ≡ blockRefusal (requiredIn n w) (grownOf n grown)) ⌝ }
 {
-    Refusal {
-        number: 10,
-        transition: transition_in(w),
-        point: point_in(w),
-        steps: steps_of(grown),
-        lowest: zero_of(grown),
-        product: 0,
-    }
+    refuse_growth(
+        10,
+        transition_in(w),
+        point_in(w),
+        steps_of(grown),
+        zero_of(grown),
+    )
 }

@@ -5,7 +5,7 @@ use mathlib.Core.List.{List, [], _∷_, _++_, List·Memᴰ, List·Memᴰ·not-ni
 use mathlib.Core.Option.{Option, none, some, Option·map, Option·some-injective, map-eq-some-iff}
 use Prim.Native.Nat.{ℕ, _/_, _%_, _^_, _*_, _≤_, _<_}
 use native.Mathlib.Omega.{arith}
-use lib.Dec.{eqb, leb, ltb, lt→ltb}
+use lib.Dec.{eqb, leb, ltb}
 use lib.ListN.{length}
 use lib.Pow.{pow-mono}
 use Rattle.hazard.specs.Limits.{mostRequired, mostProducts}
@@ -18,12 +18,11 @@ use Rattle.hazard.specs.Cover.{Network, productAt}
 use Rattle.hazard.specs.Refusal.{Refusal, refusal, productRefusal, refuseIf, inputChecks, Accepted}
 use Rattle.hazard.specs.Verdict.{products, productsCheck, digitsCheck, networkChecks, verifierChecks, Verdict, refused, fault, verdict, Fields, fieldsOf}
 use Rattle.hazard.specs.Minimal.{blockedBy, blockCheck, blocking, minimiserChecks, Minimal}
-use Rattle.hazard.proofs.Test.{no-or}
 use Rattle.hazard.proofs.Search.{none-some, first-some, place-some, those-e, firstOf-none, entries, firstOf-append, firstOf-some}
-use Rattle.hazard.proofs.Rules.{lets, inputs-few, length-whole, list-few, few-inputs, list-length, points, required-few}
+use Rattle.hazard.proofs.Rules.{inputs-few, length-whole, list-few, few-inputs, list-length, points, required-few}
 use Rattle.hazard.proofs.Sets.{required-e, required-digits, privileged-e, privileged-wide}
 use Rattle.hazard.proofs.Growth.{Ends, blocked, grow-steps, grow-ends}
-use Rattle.hazard.proofs.Verdict.{products-length, Named, none-named, zero-named, illegal-named, cube-named, fault-named, checked-accepted}
+use Rattle.hazard.proofs.Verdict.{products-length, products-fit, Named, none-named, zero-named, illegal-named, cube-named, fault-named, checked-accepted}
 
 -- The fields of a refusal; its product is below most.
 pub record Bounded (most : ℕ) (q : Refusal) : Type 0 where
@@ -153,9 +152,7 @@ module _ (n : ℕ) (f ts : List ℕ) where
   module _ (bytes : List ℕ) where
     -- What check 11 lets through has no more products than the limit.
     pub products-few : productsCheck n bytes ≡ none → length (products n bytes) ≤ mostProducts
-    products-few e =
-        let t = no-or (not (eqb (length bytes % n) 0)) (ltb mostProducts (length bytes / n)) (lets (not (eqb (length bytes % n) 0) || ltb mostProducts (length bytes / n)) 11 e) .1 in
-        let h : ¬ (mostProducts < length bytes / n) = λ l. t (lt→ltb mostProducts (length bytes / n) l) in omega (arith, products-length n bytes)
+    products-few e = omega (arith, products-length n bytes, products-fit n bytes e .1)
 
     -- A refusal of the verifier.
     pub verifier-bounds : {q : Refusal} → firstOf (verifierChecks n f ts bytes) ≡ some q → Bounded mostProducts q

@@ -1,13 +1,14 @@
 -- The verifier is right: it passes exactly the hazard-free networks.
 use mathlib.Core.Path.{_≡_, refl, sym, subst, _∙_, ap}
 use mathlib.Core.Logic.{_↔_}
-use mathlib.Core.Bool.{not, _&&_}
+use mathlib.Core.Bool.{not, _&&_, _||_}
 use mathlib.Core.List.{List, [], _∷_, List·Memᴰ}
 use mathlib.Core.Option.{Option, none, some, Option·map, map-eq-none-iff, Option·some-injective}
-use Prim.Native.Nat.{ℕ, zero, suc, _+_, _/_, _^_, _≤_, _<_}
+use Prim.Native.Nat.{ℕ, zero, suc, _+_, _/_, _%_, _^_, _≤_, _<_}
 use native.Mathlib.Omega.{arith}
-use lib.Dec.{T, T-not}
+use lib.Dec.{T, T-not, eqb, ltb, eqb→eq, lt→ltb}
 use lib.ListN.{length, drop}
+use Rattle.hazard.specs.Limits.{mostProducts}
 use Rattle.hazard.specs.Search.{first, find, firstOf}
 use Rattle.hazard.specs.Cube.{Cube, isProduct, has}
 use Rattle.hazard.specs.Transition.{off}
@@ -16,8 +17,9 @@ use Rattle.hazard.specs.Implicant.{illegal, lowestZero}
 use Rattle.hazard.specs.Cover.{Network, productAt, WellFormed, covered, HazardFreeCover}
 use Rattle.hazard.specs.HazardFree.{HazardFree}
 use Rattle.hazard.specs.Refusal.{Refusal, productRefusal, inputChecks, Accepted}
-use Rattle.hazard.specs.Verdict.{cut, products, networkChecks, verifierChecks, Verdict, refused, passed, holdsZero, intersects, uncovered, faultA, faultC, faultB, firstFault, fault, verdict, Verified, fieldsOf}
-use Rattle.hazard.proofs.Test.{T-and, sure}
+use Rattle.hazard.specs.Verdict.{cut, products, productsCheck, networkChecks, verifierChecks, Verdict, refused, passed, holdsZero, intersects, uncovered, faultA, faultC, faultB, firstFault, fault, verdict, Verified, fieldsOf}
+use Rattle.hazard.proofs.Test.{T-and, no-or, sure}
+use Rattle.hazard.proofs.Rules.{lets}
 use Rattle.hazard.proofs.Search.{none-some, first-none, none-first, find-none, place-none, firstOf-none, entries, firstOf-append, First, lowest, first-is, Find, hit, find-is, Earlier, Place, placed, place-is}
 use Rattle.hazard.proofs.Network.{entry-at, at-places}
 use Rattle.hazard.proofs.Theorem.{cover-hazard-free}
@@ -155,6 +157,13 @@ module _ (n : ℕ) (f ts : List ℕ) (net : Network) where
 judged : (o : Option Refusal) (v : Verdict) → (_≡_ {A = Verdict} (elim o [ some r ↦ refused r | none ↦ v ]) passed) ↔ ((o ≡ none) × (v ≡ passed))
 judged none v = (λ e. (refl, e), λ e. e .1)
 judged (some r) v = (λ e. let z : _≡_ {A = ℕ} 0 1 = cc in absurd (omega arith), λ e. none-some (sym (e .0)))
+
+-- What check 11 says of what it lets through.
+pub products-fit : (n : ℕ) (bytes : List ℕ) → productsCheck n bytes ≡ none → (length bytes % n ≡ 0) × (length bytes / n ≤ mostProducts)
+products-fit n bytes e =
+    let t = no-or (not (eqb (length bytes % n) 0)) (ltb mostProducts (length bytes / n)) (lets (not (eqb (length bytes % n) 0) || ltb mostProducts (length bytes / n)) 11 e) in
+    let h : ¬ (mostProducts < length bytes / n) = λ l. t .1 (lt→ltb mostProducts (length bytes / n) l) in
+    (eqb→eq (length bytes % n) 0 (sure (eqb (length bytes % n) 0) (t .0)), omega arith)
 
 module _ (n : ℕ) (f ts bytes : List ℕ) where
   -- The verifier's checks refuse nothing.

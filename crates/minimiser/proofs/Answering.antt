@@ -18,8 +18,8 @@ use Rattle.hazard.proofs.Minimal.{minimal}
 use Rattle.hazard.proofs.Promise.{promise-refused, promise-written}
 use Rattle.cube.specs.Entry.{requiredIn, privilegedIn}
 use Rattle.cube.specs.PointSet.{inSet}
-use Rattle.problem.specs.Store.{StoredSets}
-use Rattle.problem.proofs.Checks.{refuse-yes, refuse-no}
+use Rattle.sets.specs.Store.{StoredSets}
+use Rattle.refusal.proofs.Checks.{refuse-yes, refuse-no}
 use Rattle.selection.specs.Answer.{Answered}
 use Rattle.selection.proofs.Answering.{refused-kept}
 

@@ -7,9 +7,9 @@ ghost use Rattle.hazard.specs.Sets.{required};
 ghost use Rattle.points.specs.Plane.{Plane};
 ghost use Rattle.selection.specs.Answer.{minimisedOf};
 use crate::network::network_into;
-use problem::check::Counted;
-use problem::check::check;
-use problem::refusal::refuse;
+use checks::many::Counted;
+use checks::check::check;
+use refusal::refusal::refuse;
 use selection::minimised::Minimised;
 
 // Check 9, and the network, of a problem that the input rules accept: its required cubes are counted, and `off` and `ones` are its planes

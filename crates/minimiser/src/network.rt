@@ -5,13 +5,13 @@ ghost use lib.ListN.{length};
 ghost use Rattle.hazard.specs.Sets as sets;
 ghost use Rattle.hazard.specs.Transition as transition;
 ghost use Rattle.points.specs.Plane.{Plane};
-ghost use Rattle.problem.specs.Ready.{Ready};
+ghost use Rattle.sets.specs.Ready.{Ready};
 ghost use Rattle.selection.specs.Answer.{minimisedOf, Answered};
 ghost use Rattle.minimiser.specs.Room.{Room, Columns};
 use blocks::fill::blocks_into;
 use columns::relation::Relation;
 use expand::meeting::columns_into;
-use problem::sets::sets_into;
+use sets::sets::sets_into;
 use selection::minimised::Minimised;
 use selection::select::select;
 

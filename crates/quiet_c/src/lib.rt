@@ -3,13 +3,13 @@ ghost use mathlib.Core.Path.{_≡_};
 ghost use Prim.Native.Nat.{_<_};
 ghost use Rattle.hazard.specs.Minimal.{Promise};
 ghost use Rattle.hazard.specs.Verdict.{fieldsOf};
-ghost use Rattle.problem.specs.Answer.{refusalOf};
+ghost use Rattle.refusal.specs.Answer.{refusalOf};
 ghost use Rattle.selection.specs.Answer.{minimisedOf};
 ghost use Rattle.conditions.specs.Answer.{verdictOf};
 ghost use Rattle.quiet_c.specs.Packed.{unpackedRefusal, unpackedAnswer, unpackedVerdict, ReadVerdict, RefusalFits, AnswerFits};
 use conditions::fault::Verdict;
 use minimiser::minimise::minimise;
-use problem::refusal::Refusal;
+use refusal::refusal::Refusal;
 use selection::minimised::Minimised;
 use verifier::verify::verify;
 

@@ -6,7 +6,7 @@ ghost use Rattle.quiet_text.specs.Answer.{writtenOf, Solved, Replied};
 use answer_text::reply::put_network;
 use answer_text::reply::put_refusal;
 use minimiser::minimise::minimise;
-use problem::refusal::refuse;
+use refusal::refusal::refuse;
 use problem_text::read::Read;
 use problem_text::read::read_problem;
 use selection::minimised::Minimised;

@@ -1,17 +1,29 @@
 -- What a check by a test says, and what checks say one after another.
 use mathlib.Core.Path.{_≡_, refl, sym, ap, _∙_}
-use mathlib.Core.Bool.{Bool, true, false}
+use mathlib.Core.Logic.{inl, inr}
+use mathlib.Core.Bool.{Bool, true, false, _||_}
 use mathlib.Core.List.{List, [], _∷_, _++_}
 use mathlib.Core.Option.{Option, none, some}
 use Prim.Native.Nat.{ℕ}
 use lib.Dec.{T}
 use Rattle.hazard.specs.Search.{firstOf}
 use Rattle.hazard.specs.Refusal as spec
+use Rattle.hazard.proofs.Test.{or-e}
 use Rattle.hazard.proofs.Search.{firstOf-one, firstOf-left, firstOf-right}
 use Rattle.refusal.specs.Answer.{refusalOf, checkedOf}
 use Rattle.refusal.specs.declared.refusal.Refusal.{Refusal}
 use Rattle.refusal.specs.declared.checked.Checked.{Checked}
 use Rattle.refusal.specs.declared.checked.Checked.the-variants.{Accepted, Refused}
+
+-- One of two tests, and neither.
+pub or-true : (a b : Bool) → a ≡ true → (a || b) ≡ true
+or-true a b e = rw e
+
+pub or-false : (a b : Bool) → a ≡ false → (a || b) ≡ b
+or-false a b e = rw e
+
+pub neither : (a b : Bool) → ¬ T a → ¬ T b → ¬ T (a || b)
+neither a b p q t = elim (or-e a b t) [ inl u ↦ p u | inr u ↦ q u ]
 
 -- A check by a test.
 pub refuse-yes : (b : Bool) (number : ℕ) → T b → some (spec.refusal number 0 0) ≡ spec.refuseIf b number

@@ -10,7 +10,7 @@ use Rattle.hazard.specs.Minimal.{Minimised, written, declined}
 use Rattle.hazard.proofs.Search.{none-some}
 use Rattle.cube.specs.Entry.{requiredIn, privilegedIn}
 use Rattle.cube.specs.PointSet.{inSet}
-use Rattle.problem.specs.declared.refusal.Refusal as codes
+use Rattle.refusal.specs.declared.refusal.Refusal as codes
 use Rattle.selection.specs.Select.{Selected}
 use Rattle.selection.specs.Answer.{minimisedOf, blockingOf, Answered}
 use Rattle.selection.specs.Choose.{Choice}

@@ -8,7 +8,7 @@ use Rattle.hazard.specs.Search.{firstOf}
 use Rattle.hazard.specs.Sets.{Required, Privileged}
 use Rattle.hazard.specs.Refusal as spec
 use Rattle.hazard.specs.Minimal as minimal
-use Rattle.problem.specs.Answer.{refusalOf}
+use Rattle.refusal.specs.Answer.{refusalOf}
 use Rattle.selection.specs.Select.{Selected}
 use Rattle.selection.specs.declared.minimised.Minimised.{Minimised}
 use Rattle.selection.specs.declared.minimised.Minimised.the-variants.{Products, Refused}

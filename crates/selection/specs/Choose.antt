@@ -7,7 +7,7 @@ use lib.ListN.{length, getD, take}
 use Rattle.hazard.specs.Implicant.{DhfPrime}
 use Rattle.cube.specs.Entry.{requiredIn, privilegedIn, CleanWord, cubeIn}
 use Rattle.cube.specs.PointSet.{inSet}
-use Rattle.problem.specs.Answer.{refusalOf}
+use Rattle.refusal.specs.Answer.{refusalOf}
 use Rattle.choice.specs.Keep.{Noted}
 use Rattle.selection.specs.Answer.{blockingOf}
 use Rattle.selection.specs.declared.minimised.Minimised.{Minimised}

@@ -12,7 +12,7 @@ use Rattle.cube.specs.declared.mask.Cube.{Cube}
 use Rattle.cube.specs.Mask.{cubeOf, Clean}
 use Rattle.cube.specs.Entry.{requiredIn, privilegedIn, cubeIn}
 use Rattle.cube.specs.PointSet.{inSet}
-use Rattle.problem.specs.Answer.{refusalOf}
+use Rattle.refusal.specs.Answer.{refusalOf}
 use Rattle.selection.specs.declared.product.Made.{Made}
 use Rattle.selection.specs.declared.product.Made.the-variants.{Product, Blocked}
 

@@ -1,5 +1,5 @@
 // The minimiser's answer.
-use problem::refusal::Refusal;
+use refusal::refusal::Refusal;
 
 // How many products there are, or why there are none.
 pub enum Minimised {

@@ -21,7 +21,7 @@ use expand::growth::Grown;
 use expand::growth::grow;
 use expand::prime::absorbed;
 use expand::prime::expanded;
-use problem::refusal::Refusal;
+use refusal::refusal::Refusal;
 
 // The cube grown over required cube k, where that ends legal; nothing to do where it lies inside already.
 fn grown_over(

@@ -3,7 +3,7 @@ ghost use Prim.Native.Nat.{_≤_};
 ghost use lib.ListN.{length};
 use conditions::fault::Verdict;
 use minimiser::minimise::minimise;
-use problem::refusal::Refusal;
+use refusal::refusal::Refusal;
 use selection::minimised::Minimised;
 use verifier::verify::verify;
 

@@ -14,7 +14,7 @@ use Rattle.hazard.specs.Verdict as spec
 use Rattle.cube.specs.Entry.{privilegedIn, requiredIn, CleanWord, cubeIn, networkIn}
 use Rattle.cube.specs.PointSet.{inSet}
 use Rattle.cube.proofs.Word.{taken-clean}
-use Rattle.problem.specs.Store.{StoredSets}
+use Rattle.sets.specs.Store.{StoredSets}
 use Rattle.conditions.specs.Network.{Sound, Read}
 use Rattle.hazard.proofs.Verdict.{products-length}
 

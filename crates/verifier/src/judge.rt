@@ -5,7 +5,7 @@ ghost use lib.ListN.{length};
 ghost use Rattle.hazard.specs.Sets as sets;
 ghost use Rattle.hazard.specs.Verdict as spec;
 ghost use Rattle.points.specs.Plane.{Plane};
-ghost use Rattle.problem.specs.Ready.{Ready};
+ghost use Rattle.sets.specs.Ready.{Ready};
 ghost use Rattle.conditions.specs.Answer.{verdictOf};
 ghost use Rattle.conditions.specs.Network.{Sound};
 use blocks::fill::blocks_into;
@@ -14,7 +14,7 @@ use conditions::fault::Verdict;
 use conditions::fault::first_fault;
 use conditions::network::read_network;
 use expand::meeting::columns_into;
-use problem::sets::sets_into;
+use sets::sets::sets_into;
 
 // The problem's sets and the network's products are stored in the lent room with their columns, and the conditions are tried on them.
 // `off` and `ones` are the table's planes of 0 and of 1.

@@ -8,10 +8,10 @@ ghost use Rattle.points.specs.Plane.{Plane};
 ghost use Rattle.conditions.specs.Answer.{verdictOf};
 use crate::judge::judge;
 use conditions::fault::Verdict;
-use conditions::network::check_network;
-use problem::check::Counted;
-use problem::check::check;
-use problem::refusal::Checked;
+use conditions::check::network_checks;
+use checks::many::Counted;
+use checks::check::check;
+use refusal::checked::Checked;
 
 // Checks 11 and 12, and the verdict, of a network for a problem that the input rules accept: its required cubes are counted, and `off` and
 // `ones` are its planes of 0 and of 1.
@@ -27,7 +27,7 @@ fn verify_network(
     requires { ⌜ Accepted n (now table) (now transitions) × (count ≡ length (required n (now table) (now transitions))) × Plane (now table) 0 (now off) × Plane (now table) 1 (now ones) ⌝ }
     ensures { λ r. ⌜ Verified n (now (table .entry)) (now (transitions .entry)) (now (network .entry)) (verdictOf r) ⌝ }
 {
-    if let Checked::Refused(r) = check_network(n, network) {
+    if let Checked::Refused(r) = network_checks(n, network) {
         return Verdict::Refused(r);
     }
     judge(n, table, transitions, network, off, ones, count)

@@ -1,7 +1,7 @@
 use mathlib.Core.Path.{sym, ap, subst, _∙_}
 use Prim.Native.Nat.{_<_}
 use borrow.Author.Needs.{needs}
-use Rattle.problem.specs.Answer.{refusalOf}
+use Rattle.refusal.specs.Answer.{refusalOf}
 use Rattle.selection.specs.Answer.{minimisedOf}
 use Rattle.selection.specs.declared.minimised.Minimised.{Minimised}
 use Rattle.quiet_c.specs.Packed.{RefusalFits, AnswerFits}

@@ -1,5 +1,5 @@
 use borrow.Author.Needs.{needs}
-use Rattle.problem.specs.Answer.{refusalOf}
+use Rattle.refusal.specs.Answer.{refusalOf}
 use Rattle.quiet_c.proofs.Exact.{refusal-exact}
 use Rattle.quiet_c.proofs.packed_refusal.Statement.{statement}
 use Rattle.quiet_c.proofs.packed_refusal.Tie as tie

@@ -1,5 +1,5 @@
 use borrow.Author.Needs.{needs}
-use Rattle.problem.specs.Answer.{refusalOf}
+use Rattle.refusal.specs.Answer.{refusalOf}
 use Rattle.answer_text.proofs.Replies.{refusal-wrote}
 use Rattle.answer_text.proofs.reply.put_refusal.Statement.{statement}
 use Rattle.answer_text.proofs.reply.put_refusal.Tie as tie

@@ -3,8 +3,7 @@ use mathlib.Core.Bool.{_||_}
 use native.Mathlib.Omega.{arith}
 use lib.Dec.{eqb, ltb, eqb→eq, lt→ltb, ltb→lt}
 use Rattle.hazard.proofs.Test.{or-l, or-r, eqb-of}
-use Rattle.refusal.proofs.Checks.{refuse-yes, refuse-no}
-use Rattle.checks.proofs.Checks.{neither}
+use Rattle.refusal.proofs.Checks.{neither, refuse-yes, refuse-no}
 use borrow.Author.Needs.{needs}
 use Rattle.checks.proofs.inputs.check_inputs.Statement.{statement}
 use Rattle.checks.proofs.inputs.check_inputs.Tie as tie

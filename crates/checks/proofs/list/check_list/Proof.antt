@@ -7,8 +7,7 @@ use lib.Dec.{eqb, ltb, eqb→eq, lt→ltb, ltb→lt}
 use lib.ListN.{length}
 use Rattle.hazard.specs.Transition.{count}
 use Rattle.hazard.proofs.Test.{or-l, or-r, eqb-of}
-use Rattle.refusal.proofs.Checks.{refuse-yes, refuse-no}
-use Rattle.checks.proofs.Checks.{neither}
+use Rattle.refusal.proofs.Checks.{neither, refuse-yes, refuse-no}
 use borrow.Author.Needs.{needs}
 use Rattle.checks.proofs.list.check_list.Statement.{statement}
 use Rattle.checks.proofs.list.check_list.Tie as tie

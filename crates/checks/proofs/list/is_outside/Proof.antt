@@ -4,7 +4,7 @@ use native.Mathlib.Omega.{arith}
 use lib.Dec.{leb}
 use borrow.Author.Tests.{le-leb, lt-leb}
 use Rattle.cube.proofs.Bits.{one-shl}
-use Rattle.checks.proofs.Checks.{or-true, or-false}
+use Rattle.refusal.proofs.Checks.{or-true, or-false}
 use borrow.Author.Needs.{needs}
 use Rattle.checks.proofs.list.is_outside.Statement.{statement}
 use Rattle.checks.proofs.list.is_outside.Tie as tie

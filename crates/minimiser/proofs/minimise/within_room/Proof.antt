@@ -3,7 +3,7 @@ use native.Mathlib.Omega.{arith}
 use lib.ListN.{length}
 use denote.Ref.{now}
 use Rattle.hazard.proofs.Rules.{required-few}
-use Rattle.problem.proofs.Checks.{accepted-ready}
+use Rattle.checks.proofs.Checks.{accepted-ready}
 use Rattle.minimiser.proofs.Answering.{bytes-few, room-declined, room-enough, promised}
 use borrow.Author.Needs.{needs}
 use Rattle.minimiser.proofs.minimise.within_room.Statement.{statement}

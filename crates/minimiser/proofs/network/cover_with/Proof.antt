@@ -1,7 +1,7 @@
 use Rattle.minimiser.proofs.Answering.{required-length, required-fits, required-room, answered-sets}
 use Rattle.minimiser.proofs.Rooms.{part-size, part-low, part-notes, part-places, sets-low, sets-part}
 use Rattle.points.proofs.Ready.{words-ready}
-use Rattle.problem.proofs.Parts.{parts}
+use Rattle.sets.proofs.Parts.{parts}
 use lib.ListN.{length, length-take}
 use native.Mathlib.Omega.{arith}
 use Prim.Native.Nat.{_-_, _≤_}

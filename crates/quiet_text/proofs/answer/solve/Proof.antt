@@ -3,7 +3,7 @@ use native.Mathlib.Omega.{arith}
 use denote.Ref.{now}
 use borrow.Author.Needs.{needs}
 use Rattle.hazard.specs.Minimal as minimal
-use Rattle.problem.specs.Answer.{refusalOf}
+use Rattle.refusal.specs.Answer.{refusalOf}
 use Rattle.selection.specs.Answer.{minimisedOf}
 use Rattle.selection.specs.declared.minimised.Minimised.{Minimised}
 use Rattle.quiet_text.proofs.Solving.{network-room, solved-refused, solved-written, printed-from, refusal-length}

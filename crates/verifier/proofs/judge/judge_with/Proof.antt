@@ -1,5 +1,5 @@
 use native.Mathlib.Omega.{arith}
-use Rattle.problem.proofs.Parts.{parts}
+use Rattle.sets.proofs.Parts.{parts}
 use Rattle.points.proofs.Ready.{words-ready}
 use Rattle.verifier.proofs.Judging.{part-few, read-size, read-few, read-clean, rows-enough, judged}
 use borrow.Author.Needs.{needs}

@@ -1,20 +1,15 @@
+use mathlib.Core.Path.{_≡_, sym}
+use lib.ListN.{length}
 use denote.Ref.{now}
 use Rattle.hazard.specs.Search.{firstOf}
-use Rattle.hazard.specs.Refusal.{inputChecks}
-use Rattle.problem.proofs.Checks.{answer-accepted, answer-refused}
+use Rattle.hazard.specs.Sets.{required}
+use Rattle.hazard.specs.Refusal.{inputChecks, Accepted}
+use Rattle.points.specs.Plane.{Plane}
+use Rattle.checks.proofs.Checks.{answer-accepted, answer-refused}
 use Rattle.verifier.proofs.Verifying.{input-refused}
 use borrow.Author.Needs.{needs}
 use Rattle.verifier.proofs.verify.verify.Statement.{statement}
 use Rattle.verifier.proofs.verify.verify.Tie as tie
-
-slice-aggregate-check : tie.Need-slice-aggregate-check
-slice-aggregate-check c = search needs
-
-slice-aggregate-check-2 : tie.Need-slice-aggregate-check-2
-slice-aggregate-check-2 c = search needs
-
-slice-aggregate-check-3 : tie.Need-slice-aggregate-check-3
-slice-aggregate-check-3 c = search needs
 
 check-requires : tie.Need-check-requires
 check-requires c κs = search needs
@@ -25,23 +20,28 @@ enum-known-r c = search needs
 enum-known-count : tie.Need-enum-known-count
 enum-known-count c = search needs
 
+-- The problem is accepted, and its planes are made.
+told : (c : tie.After-count) → let a = c .before .before .before .before .before .before .before .before .before .args in
+    Accepted (a .n) (now (a .table)) (now (a .transitions)) × (c .count .given .0 .0 ≡ length (required (a .n) (now (a .table)) (now (a .transitions)))) × Plane (now (a .table)) 0 (c .before .before .check .last .1 .1 .1 .0) × Plane (now (a .table)) 1 (c .before .before .check .last .1 .1 .1 .1 .0)
+told c =
+    let a = c .before .before .before .before .before .before .before .before .before .args in
+    let h = c .before .before .check in
+    answer-accepted (a .n) (now (a .table)) (now (a .transitions)) _ _ (firstOf (inputChecks (a .n) (now (a .table)) (now (a .transitions)))) (h .ensures) (c .count .given .1)
+
 slice-aggregate-verify-network : tie.Need-slice-aggregate-verify-network
-slice-aggregate-verify-network c = search needs
+slice-aggregate-verify-network c = sym (told (c .before .before) .2 .long)
 
 slice-aggregate-verify-network-2 : tie.Need-slice-aggregate-verify-network-2
-slice-aggregate-verify-network-2 c = search needs
+slice-aggregate-verify-network-2 c = sym (told (c .before .before .before) .3 .long)
 
 verify-network-requires : tie.Need-verify-network-requires
-verify-network-requires c κs =
-    let a = c .before .before .before .before .before .before .before .before .before .before .before .before .before .before .before .args in
-    let h = c .before .before .before .before .before .before .before .before .check in
-    answer-accepted (a .n) (now (a .table)) (now (a .transitions)) _ _ (h .result) (firstOf (inputChecks (a .n) (now (a .table)) (now (a .transitions)))) (h .ensures) (c .before .before .before .count .given .1)
+verify-network-requires c κs = told (c .before .before .before)
 
 returns : tie.Need-returns
 returns c =
-    let a = c .before .before .before .before .before .before .before .before .before .before .before .before .before .args in
-    let h = c .before .before .before .before .before .before .check in
-    input-refused (a .n) (now (a .table)) (now (a .transitions)) (now (a .network)) (answer-refused (a .n) (now (a .table)) (now (a .transitions)) _ _ (h .result) (firstOf (inputChecks (a .n) (now (a .table)) (now (a .transitions)))) (h .ensures) (c .before .r .given .1))
+    let a = c .before .before .before .before .before .before .before .before .before .before .args in
+    let h = c .before .before .before .check in
+    input-refused (a .n) (now (a .table)) (now (a .transitions)) (now (a .network)) (answer-refused (a .n) (now (a .table)) (now (a .transitions)) _ _ (firstOf (inputChecks (a .n) (now (a .table)) (now (a .transitions)))) (h .ensures) (c .before .r .given .1))
 
 returns-2 : tie.Need-returns-2
 returns-2 c = search needs
@@ -50,9 +50,6 @@ pub verify-spec : {M : Type 1} → statement M
 verify-spec =
     tie.close
     (tie.spec
-    slice-aggregate-check
-    slice-aggregate-check-2
-    slice-aggregate-check-3
     check-requires
     enum-known-r
     enum-known-count

@@ -7,8 +7,8 @@ use borrow.Author.Needs.{needs}
 use Rattle.hazard.specs.Search.{first}
 use Rattle.cube.proofs.Scan.{Scan, scan-start, scan-hit, scan-miss, scan-end}
 use Rattle.conditions.proofs.Bytes.{badAt, place-room, place-next, place-bad, digits-found, digits-none}
-use Rattle.conditions.proofs.network.check_digits.Statement.{statement}
-use Rattle.conditions.proofs.network.check_digits.Tie as tie
+use Rattle.conditions.proofs.check.check_digits.Statement.{statement}
+use Rattle.conditions.proofs.check.check_digits.Tie as tie
 
 abbrev Inv-loop : tie.InvT-loop
 Inv-loop n bytes count at₀ j₀ at j = (at ≡ j * n) × Scan (badAt n bytes) (length bytes / n) j (first (badAt n bytes) 0 (length bytes / n))

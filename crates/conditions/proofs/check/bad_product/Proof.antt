@@ -2,8 +2,8 @@ use Prim.Native.Nat.{_-_}
 use native.Mathlib.Omega.{arith}
 use borrow.Author.Needs.{needs}
 use Rattle.conditions.proofs.Bytes.{Digitwise, digitwise-start, digitwise-hit, digitwise-miss, digitwise-end}
-use Rattle.conditions.proofs.network.bad_product.Statement.{statement}
-use Rattle.conditions.proofs.network.bad_product.Tie as tie
+use Rattle.conditions.proofs.check.bad_product.Statement.{statement}
+use Rattle.conditions.proofs.check.bad_product.Tie as tie
 
 abbrev Inv-loop : tie.InvT-loop
 Inv-loop n bytes at i₀ i = Digitwise n bytes at i
