@@ -17,37 +17,37 @@ use Rattle.columns.specs.Table.{AllowedAt}
 use Rattle.columns.specs.declared.relation.Relation.{Relation}
 use Rattle.columns.specs.declared.relation.Allowed.{Allowed}
 use Rattle.columns.proofs.Narrowing.{upto, relates-upto, digit-lt}
-use Rattle.blocks.specs.Blocks.{digitAt, allowed, allowedTo, Blocks, BlockEnd, BlockFilled}
+use Rattle.blocks.specs.Blocks.{digitAt, runOf, wordAt, allowed, allowedTo, Blocks, BlockEnd, BlockFilled}
 
 pub block-start : (rel : Relation) (rows : List ℕ) (b : ℕ) (columns : List ℕ) → BlockFilled rel 0 rows b columns columns
 block-start rel rows b columns = record { long = refl; is = λ i d k h. absurd (omega arith); others = λ i d a h ne. refl }
 
 -- Three words more.
 abbrev pub stored : List ℕ → ℕ → ℕ → Allowed → List ℕ
-stored columns i b w = set (set (set columns (96 * i + b) (w .zero)) (96 * i + 32 + b) (w .one)) (96 * i + 64 + b) (w .absent)
+stored columns i b w = set (set (set columns (runOf i 0 + b) (w .zero)) (runOf i 1 + b) (w .one)) (runOf i 2 + b) (w .absent)
 
 module _ (columns : List ℕ) (i b : ℕ) (w : Allowed) where
   abbrev once : List ℕ
-  once = set columns (96 * i + b) (w .zero)
+  once = set columns (runOf i 0 + b) (w .zero)
 
   abbrev twice : List ℕ
-  twice = set once (96 * i + 32 + b) (w .one)
+  twice = set once (runOf i 1 + b) (w .one)
 
   pub stored-length : length (stored columns i b w) ≡ length columns
-  stored-length = length-set twice (96 * i + 64 + b) (w .absent) ∙ length-set once (96 * i + 32 + b) (w .one) ∙ length-set columns (96 * i + b) (w .zero)
+  stored-length = length-set twice (runOf i 2 + b) (w .absent) ∙ length-set once (runOf i 1 + b) (w .one) ∙ length-set columns (runOf i 0 + b) (w .zero)
 
-  stored-other : (q : ℕ) → q ≢ 96 * i + b → q ≢ 96 * i + 32 + b → q ≢ 96 * i + 64 + b → getD (stored columns i b w) q 0 ≡ getD columns q 0
-  stored-other q x y z = getD-set-other twice (96 * i + 64 + b) q (w .absent) 0 z ∙ getD-set-other once (96 * i + 32 + b) q (w .one) 0 y ∙ getD-set-other columns (96 * i + b) q (w .zero) 0 x
+  stored-other : (q : ℕ) → q ≢ runOf i 0 + b → q ≢ runOf i 1 + b → q ≢ runOf i 2 + b → getD (stored columns i b w) q 0 ≡ getD columns q 0
+  stored-other q x y z = getD-set-other twice (runOf i 2 + b) q (w .absent) 0 z ∙ getD-set-other once (runOf i 1 + b) q (w .one) 0 y ∙ getD-set-other columns (runOf i 0 + b) q (w .zero) 0 x
 
-  module _ (l : 96 * i + 64 + b < length columns) where
-    stored-zero : getD (stored columns i b w) (96 * i + b) 0 ≡ w .zero
-    stored-zero = getD-set-other twice (96 * i + 64 + b) (96 * i + b) (w .absent) 0 (λ e. omega (arith, e)) ∙ getD-set-other once (96 * i + 32 + b) (96 * i + b) (w .one) 0 (λ e. omega (arith, e)) ∙ getD-set-same columns (96 * i + b) (w .zero) 0 (omega arith)
+  module _ (l : runOf i 2 + b < length columns) where
+    stored-zero : getD (stored columns i b w) (runOf i 0 + b) 0 ≡ w .zero
+    stored-zero = getD-set-other twice (runOf i 2 + b) (runOf i 0 + b) (w .absent) 0 (λ e. omega (arith, e)) ∙ getD-set-other once (runOf i 1 + b) (runOf i 0 + b) (w .one) 0 (λ e. omega (arith, e)) ∙ getD-set-same columns (runOf i 0 + b) (w .zero) 0 (omega arith)
 
-    stored-one : getD (stored columns i b w) (96 * i + 32 + b) 0 ≡ w .one
-    stored-one = getD-set-other twice (96 * i + 64 + b) (96 * i + 32 + b) (w .absent) 0 (λ e. omega (arith, e)) ∙ getD-set-same once (96 * i + 32 + b) (w .one) 0 (simp length-set (omega arith))
+    stored-one : getD (stored columns i b w) (runOf i 1 + b) 0 ≡ w .one
+    stored-one = getD-set-other twice (runOf i 2 + b) (runOf i 1 + b) (w .absent) 0 (λ e. omega (arith, e)) ∙ getD-set-same once (runOf i 1 + b) (w .one) 0 (simp length-set (omega arith))
 
-    stored-absent : getD (stored columns i b w) (96 * i + 64 + b) 0 ≡ w .absent
-    stored-absent = getD-set-same twice (96 * i + 64 + b) (w .absent) 0 (simp length-set l)
+    stored-absent : getD (stored columns i b w) (runOf i 2 + b) 0 ≡ w .absent
+    stored-absent = getD-set-same twice (runOf i 2 + b) (w .absent) 0 (simp length-set l)
 
 pub block-step : {rel : Relation} {rows : List ℕ} {b i : ℕ} {before columns : List ℕ} → BlockFilled rel i rows b before columns → b < 32 → i < 10 → length before ≡ 960
     → (w : Allowed) → AllowedAt rel rows i w → BlockFilled rel (i + 1) rows b before (stored columns i b w)
@@ -55,27 +55,27 @@ block-step {rel} {rows} {b} {i} {before} {columns} s m j e w a =
     record {
       long = stored-length columns i b w ∙ s .long;
       is = λ x d k x<i d<3 k<. elim (ℕ-discrete x i) [ yes q ↦ here x d k q d<3 k< | no q ↦ earlier x d k (omega (arith, q)) d<3 k< ];
-      others = λ x d y y<32 ne. stored-other columns i b w (32 * (3 * x + d) + y) (λ q. apart x d y 0 (omega (arith, q)) ne y<32) (λ q. apart x d y 1 (omega (arith, q)) ne y<32) (λ q. apart x d y 2 (omega (arith, q)) ne y<32) ∙ s .others x d y y<32 ne;
+      others = λ x d y y<32 ne. stored-other columns i b w (runOf x d + y) (λ q. apart x d y 0 (omega (arith, q)) ne y<32) (λ q. apart x d y 1 (omega (arith, q)) ne y<32) (λ q. apart x d y 2 (omega (arith, q)) ne y<32) ∙ s .others x d y y<32 ne;
     }
   where
-    room : 96 * i + 64 + b < length columns
+    room : runOf i 2 + b < length columns
     room = omega (arith, s .long)
 
-    apart : (x d y t : ℕ) → 32 * (3 * x + d) + y ≡ 96 * i + 32 * t + b → y ≢ b → y < 32 → ⊥
+    apart : (x d y t : ℕ) → runOf x d + y ≡ runOf i t + b → y ≢ b → y < 32 → ⊥
     apart x d y t q ne h = ne (omega (arith, q, m))
 
     bit-at : (q v k : ℕ) → getD (stored columns i b w) q 0 ≡ v → eqb (bit (getD (stored columns i b w) q 0) k) 1 ≡ eqb (bit v k) 1
     bit-at q v k = ap (λ (y : ℕ). eqb (bit y k) 1)
 
-    here : (x d k : ℕ) → x ≡ i → d < 3 → k < length rows → eqb (bit (getD (stored columns i b w) (32 * (3 * x + d) + b) 0) k) 1 ≡ allows rel (getD rows k 0) x d
-    here x zero k q l h = let p : 32 * (3 * x + 0) + b ≡ 96 * i + b = omega (arith, q) in rw (p, q) (bit-at (96 * i + b) (w .zero) k (stored-zero columns i b w room) ∙ a .zero· k h)
-    here x (suc zero) k q l h = let p : 32 * (3 * x + 1) + b ≡ 96 * i + 32 + b = omega (arith, q) in rw (p, q) (bit-at (96 * i + 32 + b) (w .one) k (stored-one columns i b w room) ∙ a .one· k h)
-    here x (suc (suc zero)) k q l h = let p : 32 * (3 * x + 2) + b ≡ 96 * i + 64 + b = omega (arith, q) in rw (p, q) (bit-at (96 * i + 64 + b) (w .absent) k (stored-absent columns i b w room) ∙ a .absent· k h)
+    here : (x d k : ℕ) → x ≡ i → d < 3 → k < length rows → eqb (bit (getD (stored columns i b w) (runOf x d + b) 0) k) 1 ≡ allows rel (getD rows k 0) x d
+    here x zero k q l h = let p : runOf x 0 + b ≡ runOf i 0 + b = omega (arith, q) in rw (p, q) (bit-at (runOf i 0 + b) (w .zero) k (stored-zero columns i b w room) ∙ a .zero· k h)
+    here x (suc zero) k q l h = let p : runOf x 1 + b ≡ runOf i 1 + b = omega (arith, q) in rw (p, q) (bit-at (runOf i 1 + b) (w .one) k (stored-one columns i b w room) ∙ a .one· k h)
+    here x (suc (suc zero)) k q l h = let p : runOf x 2 + b ≡ runOf i 2 + b = omega (arith, q) in rw (p, q) (bit-at (runOf i 2 + b) (w .absent) k (stored-absent columns i b w room) ∙ a .absent· k h)
     here x (suc (suc (suc d))) k q l h = absurd (omega arith)
 
-    earlier : (x d k : ℕ) → x < i → d < 3 → k < length rows → eqb (bit (getD (stored columns i b w) (32 * (3 * x + d) + b) 0) k) 1 ≡ allows rel (getD rows k 0) x d
+    earlier : (x d k : ℕ) → x < i → d < 3 → k < length rows → eqb (bit (getD (stored columns i b w) (runOf x d + b) 0) k) 1 ≡ allows rel (getD rows k 0) x d
     earlier x d k p l h =
-        ap (λ (y : ℕ). eqb (bit y k) 1) (stored-other columns i b w (32 * (3 * x + d) + b) (λ q. omega (arith, q)) (λ q. omega (arith, q)) (λ q. omega (arith, q))) ∙ s .is x d k p l h
+        ap (λ (y : ℕ). eqb (bit y k) 1) (stored-other columns i b w (runOf x d + b) (λ q. omega (arith, q)) (λ q. omega (arith, q)) (λ q. omega (arith, q))) ∙ s .is x d k p l h
 
 -- The rows of the blocks below b have their words.
 pub record Filled (rel : Relation) (n : ℕ) (rows columns : List ℕ) (b : ℕ) : Type 0 where
@@ -106,7 +106,7 @@ module _ {rel : Relation} {n : ℕ} {rows columns : List ℕ} {b : ℕ} (s : Fil
       here : (i d k : ℕ) → i < n → d < 3 → k < length rows → k / 64 ≡ b → allowed next k i d ≡ allows rel (getD rows k 0) i d
       here i d k x y h q =
           let (j, g) = row k h q in
-          ap (λ (a : ℕ). eqb (bit (getD next (32 * (3 * i + d) + a) 0) (k % 64)) 1) q ∙ f .is i d (k % 64) x y (omega (arith, size, j)) ∙ ap (λ (w : ℕ). allows rel w i d) g
+          ap (λ (a : ℕ). eqb (bit (wordAt next i d a) (k % 64)) 1) q ∙ f .is i d (k % 64) x y (omega (arith, size, j)) ∙ ap (λ (w : ℕ). allows rel w i d) g
 
       earlier : (i d k : ℕ) → i < n → d < 3 → k < length rows → k < 64 * b → allowed next k i d ≡ allows rel (getD rows k 0) i d
       earlier i d k x y h z = ap (λ (w : ℕ). eqb (bit w (k % 64)) 1) (f .others i d (k / 64) (omega (arith, m)) (λ q. omega (arith, q, z))) ∙ s .is i d k x y h z

@@ -17,9 +17,16 @@ use Rattle.columns.specs.declared.relation.Relation.{Relation}
 abbrev pub digitAt : Cube → ℕ → ℕ
 digitAt c i = digit (bit (c .care) i) (bit (c .value) i)
 
+-- Where the run of input i and digit d begins, and its word for block b.
+abbrev pub runOf : ℕ → ℕ → ℕ
+runOf i d = 32 * (3 * i + d)
+
+abbrev pub wordAt : List ℕ → ℕ → ℕ → ℕ → ℕ
+wordAt columns i d b = getD columns (runOf i d + b) 0
+
 -- Row k has its bit in the words of input i and digit d.
 abbrev pub allowed : List ℕ → ℕ → ℕ → ℕ → Bool
-allowed columns k i d = eqb (bit (getD columns (32 * (3 * i + d) + k / 64) 0) (k % 64)) 1
+allowed columns k i d = eqb (bit (wordAt columns i d (k / 64)) (k % 64)) 1
 
 -- Row k has its bit for each input below n, in the words of the cube's digit there.
 abbrev pub allowedTo : List ℕ → ℕ → Cube → ℕ → Bool
@@ -41,5 +48,5 @@ pub record BlockEnd (from count r : ℕ) : Type 0 where
 -- The words of block b are those of its rows; the words of other blocks are as they were.
 pub record BlockFilled (rel : Relation) (n : ℕ) (rows : List ℕ) (b : ℕ) (before after : List ℕ) : Type 0 where
   pub long : length after ≡ length before
-  pub is : (i d k : ℕ) → i < n → d < 3 → k < length rows → eqb (bit (getD after (32 * (3 * i + d) + b) 0) k) 1 ≡ allows rel (getD rows k 0) i d
-  pub others : (i d a : ℕ) → a < 32 → a ≢ b → getD after (32 * (3 * i + d) + a) 0 ≡ getD before (32 * (3 * i + d) + a) 0
+  pub is : (i d k : ℕ) → i < n → d < 3 → k < length rows → eqb (bit (wordAt after i d b) k) 1 ≡ allows rel (getD rows k 0) i d
+  pub others : (i d a : ℕ) → a < 32 → a ≢ b → wordAt after i d a ≡ wordAt before i d a

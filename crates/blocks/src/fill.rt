@@ -4,6 +4,7 @@ ghost use Prim.Native.Nat.{_*_, _≤_, _<_};
 ghost use lib.ListN.{length};
 ghost use Rattle.columns.specs.Relation.{relates};
 ghost use Rattle.blocks.specs.Blocks.{Blocks, BlockEnd, BlockFilled};
+use crate::word::run_of;
 use columns::relation::Relation;
 use columns::relation::allowed_at;
 
@@ -15,9 +16,9 @@ fn block_into(rel: Relation, n: usize, rows: &[u64], b: usize, columns: &mut [u6
     let mut i = 0;
     while i < n {
         let words = allowed_at(rel, rows, i);
-        columns[96 * i + b] = words.zero;
-        columns[96 * i + 32 + b] = words.one;
-        columns[96 * i + 64 + b] = words.absent;
+        columns[run_of(i, 0) + b] = words.zero;
+        columns[run_of(i, 1) + b] = words.one;
+        columns[run_of(i, 2) + b] = words.absent;
         i += 1;
     }
 }

@@ -4,3 +4,4 @@ pub mod member;
 pub mod narrow;
 pub mod split;
 pub mod whole;
+pub mod word;

@@ -7,6 +7,7 @@ ghost use lib.Dec.{ltb};
 ghost use lib.ListN.{length, getD};
 ghost use Rattle.cube.specs.PointSet.{inSet};
 ghost use Rattle.blocks.specs.Blocks.{allowedTo};
+use crate::word::run_of;
 use columns::query::digit_at;
 use cube::mask::Cube;
 
@@ -42,8 +43,8 @@ pub fn narrow(n: usize, columns: &[u64], c: Cube, rows: &mut [u64])
     let mut i = 0;
     while i < n {
         let j = partner(i, n);
-        let at = 32 * (3 * i + digit_at(c, i));
-        let also = 32 * (3 * j + digit_at(c, j));
+        let at = run_of(i, digit_at(c, i));
+        let also = run_of(j, digit_at(c, j));
         narrow_by(columns, at, also, rows);
         i = j + 1;
     }

@@ -4,3 +4,4 @@ pub mod Flags
 pub mod Covering
 pub mod Choosing
 pub mod Keeping
+pub mod Lowering

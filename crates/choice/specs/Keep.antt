@@ -15,6 +15,11 @@ use Rattle.choice.specs.First.{firstIn}
 abbrev pub neededIn : List ℕ → List Bool → ℕ → ℕ → Bool
 neededIn firsts flags j i = eqb (getD firsts i 0) j && not (getD flags i false)
 
+-- At the place of each required cube's first product stands the lowest required cube with that first.
+pub record Lowest (firsts lowest : List ℕ) : Type 0 where
+  pub low : (i : ℕ) → i < length firsts → getD lowest (getD firsts i 0) 0 ≤ i
+  pub same : (i : ℕ) → i < length firsts → getD firsts (getD lowest (getD firsts i 0) 0) 0 ≡ getD firsts i 0
+
 -- For each required cube the place of its first product is noted, and there are no more products than required cubes.
 pub record Noted (n : ℕ) (required firsts products : List ℕ) : Type 0 where
   pub each : (i : ℕ) → i < length required → firstIn (networkIn n products) (cubeIn n (getD required i 0)) ≡ some (getD firsts i 0)

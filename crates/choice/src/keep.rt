@@ -1,14 +1,13 @@
 // The products that are kept: an irredundant part of those chosen.
 ghost use mathlib.Core.Path.{_≡_};
-ghost use Prim.Native.Nat.{_*_, _≤_, _<_};
-ghost use lib.ListN.{length};
+ghost use Prim.Native.Nat.{ℕ, _*_, _≤_, _<_};
+ghost use lib.ListN.{length, getD};
 ghost use Rattle.hazard.specs.Search.{found, first};
-ghost use Rattle.choice.specs.Keep.{neededIn, Noted, Kept};
+ghost use Rattle.choice.specs.Keep.{neededIn, Lowest, Noted, Kept};
 ghost use Rattle.choice.specs.Rows.{Inside};
 use crate::flag::flag_product;
 use blocks::whole::whole_into;
 use cube::entry::cube_in;
-use cube::entry::transition_in;
 
 // Required cube i has product j for its first, and its flag is not set: it lies in no product kept so far.
 fn needed_at(firsts: &[u16], flags: &[bool], j: u16, i: usize) -> bool
@@ -36,17 +35,30 @@ fn needed_by_any(firsts: &[u16], flags: &[bool], j: u16) -> bool
     false
 }
 
-// Some required cube needs product j. The one that the product was made for mostly does, so it is asked before the others.
-fn needed(firsts: &[u16], flags: &[bool], j: u16, made_for: usize) -> bool
+// Some required cube needs product j. The lowest that has it for its first mostly does, so it is asked before the others.
+fn needed(firsts: &[u16], flags: &[bool], j: u16, lowest: u16) -> bool
     requires { ⌜ length (now firsts) ≤ length (now flags) ⌝ }
     ensures { λ b. ⌜ b ≡ found (first (neededIn (now (firsts .entry)) (now (flags .entry)) j) 0 (length (now (firsts .entry)))) ⌝ }
 {
-    if made_for < firsts.len() {
-        if needed_at(firsts, flags, j, made_for) {
+    let i = lowest as usize;
+    if i < firsts.len() {
+        if needed_at(firsts, flags, j, i) {
             return true;
         }
     }
     needed_by_any(firsts, flags, j)
+}
+
+// For each product the lowest required cube that has it for its first.
+fn lowest_into(firsts: &[u16], lowest: &mut [u16])
+    requires { ⌜ (length (now firsts) ≤ 2048) × (length (now lowest) ≡ 2048) × ((i : ℕ) → i < length (now firsts) → getD (now firsts) i 0 < 2048) ⌝ }
+    ensures { λ _. ⌜ Lowest (now (firsts .entry)) (now (lowest .exit)) ⌝ }
+{
+    let mut i = firsts.len();
+    while 0 < i {
+        i -= 1;
+        lowest[firsts[i] as usize] = i as u16;
+    }
 }
 
 // Going backwards, a product is kept where some required cube needs it. Those kept are moved to the end, in their order; the place of the
@@ -66,13 +78,15 @@ pub fn irredundant_from(
     ensures { λ r. ⌜ Kept n (now (required .entry)) (now (products .entry)) (now (products .exit)) r ⌝ }
 {
     let mut flags = [false; 2048];
+    let mut lowest = [0u16; 2048];
+    lowest_into(firsts, &mut lowest);
     whole_into(required.len(), uncovered);
     let mut kept = products.len();
     let mut j = products.len();
     while 0 < j {
         j -= 1;
         let p = products[j];
-        if needed(firsts, &flags, j as u16, transition_in(p) as usize) {
+        if needed(firsts, &flags, j as u16, lowest[j]) {
             kept -= 1;
             products[kept] = p;
             flag_product(n, columns, cube_in(p), uncovered, taken, &mut flags);

@@ -47,8 +47,7 @@ pub fn choose(
             match made {
                 Made::Blocked(q) => return Minimised::Refused(q),
                 Made::Product(c) => {
-                    // The word carries the place of the required cube that the product is for.
-                    products[m] = pack(r as u16, 0, c);
+                    products[m] = pack(0, 0, c);
                     flag_product(n, columns, c, uncovered, taken, &mut flags);
                     note(firsts, taken, m as u16);
                     m += 1;

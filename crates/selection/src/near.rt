@@ -2,6 +2,7 @@
 ghost use mathlib.Core.Path.{_≡_};
 ghost use Prim.Native.Nat.{_≤_, _<_};
 ghost use lib.ListN.{length};
+use blocks::word::word_at;
 use columns::query::digit_at;
 use cube::mask::Cube;
 
@@ -9,8 +10,8 @@ use cube::mask::Cube;
 fn losing(columns: &[u64], b: usize, c: Cube, i: usize) -> u64
     requires { ⌜ (length (now columns) ≡ 960) × (b < 32) × (i < 10) ⌝ }
 {
-    let zero = columns[96 * i + b];
-    let one = columns[96 * i + 32 + b];
+    let zero = word_at(columns, i, 0, b);
+    let one = word_at(columns, i, 1, b);
     let d = digit_at(c, i);
     if d == 0 {
         return one;

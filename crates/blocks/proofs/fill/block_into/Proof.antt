@@ -20,47 +20,41 @@ loop-holds c = (omega arith, block-start _ _ _ _)
 allowed-at-requires : tie.Need-allowed-at-requires Inv-loop μ-loop
 allowed-at-requires c κs = search needs
 
-mul-columns : tie.Need-mul-columns Inv-loop μ-loop
-mul-columns c = search needs
+run-of-requires : tie.Need-run-of-requires Inv-loop μ-loop
+run-of-requires c κs = search needs
 
 add-columns : tie.Need-add-columns Inv-loop μ-loop
 add-columns c = search needs
 
-mul-columns-2 : tie.Need-mul-columns-2 Inv-loop μ-loop
-mul-columns-2 c = search needs
+mul-columns : tie.Need-mul-columns Inv-loop μ-loop
+mul-columns c = search needs
 
 slice-write-columns : tie.Need-slice-write-columns Inv-loop μ-loop
-slice-write-columns c = omega (arith, c .before .before .before .before .before .pre, c .before .before .loop .inv .1 .long)
+slice-write-columns c = omega (arith, c .before .before .before .before .before .before .pre, c .before .before .before .loop .inv .1 .long, c .run-of .ensures)
 
-mul-columns-3 : tie.Need-mul-columns-3 Inv-loop μ-loop
-mul-columns-3 c = search needs
+run-of-requires-2 : tie.Need-run-of-requires-2 Inv-loop μ-loop
+run-of-requires-2 c κs = search needs
 
 add-columns-2 : tie.Need-add-columns-2 Inv-loop μ-loop
 add-columns-2 c = search needs
 
+mul-columns-2 : tie.Need-mul-columns-2 Inv-loop μ-loop
+mul-columns-2 c = search needs
+
+slice-write-columns-2 : tie.Need-slice-write-columns-2 Inv-loop μ-loop
+slice-write-columns-2 c = simp length-set (omega (arith, c .before .before .before .before .before .before .before .pre, c .before .before .before .before .loop .inv .1 .long, c .run-of2 .ensures))
+
+run-of-requires-3 : tie.Need-run-of-requires-3 Inv-loop μ-loop
+run-of-requires-3 c κs = search needs
+
 add-columns-3 : tie.Need-add-columns-3 Inv-loop μ-loop
 add-columns-3 c = search needs
 
-mul-columns-4 : tie.Need-mul-columns-4 Inv-loop μ-loop
-mul-columns-4 c = search needs
-
-slice-write-columns-2 : tie.Need-slice-write-columns-2 Inv-loop μ-loop
-slice-write-columns-2 c = simp length-set (omega (arith, c .before .before .before .before .before .pre, c .before .before .loop .inv .1 .long))
-
-mul-columns-5 : tie.Need-mul-columns-5 Inv-loop μ-loop
-mul-columns-5 c = search needs
-
-add-columns-4 : tie.Need-add-columns-4 Inv-loop μ-loop
-add-columns-4 c = search needs
-
-add-columns-5 : tie.Need-add-columns-5 Inv-loop μ-loop
-add-columns-5 c = search needs
-
-mul-columns-6 : tie.Need-mul-columns-6 Inv-loop μ-loop
-mul-columns-6 c = search needs
+mul-columns-3 : tie.Need-mul-columns-3 Inv-loop μ-loop
+mul-columns-3 c = search needs
 
 slice-write-columns-3 : tie.Need-slice-write-columns-3 Inv-loop μ-loop
-slice-write-columns-3 c = simp length-set (omega (arith, c .before .before .before .before .before .pre, c .before .before .loop .inv .1 .long))
+slice-write-columns-3 c = simp length-set (omega (arith, c .before .before .before .before .before .before .before .before .pre, c .before .before .before .before .before .loop .inv .1 .long, c .run-of3 .ensures))
 
 add-i : tie.Need-add-i Inv-loop μ-loop
 add-i c = search needs
@@ -70,8 +64,9 @@ loop-less c = search needs
 
 loop-again : tie.Need-loop-again Inv-loop μ-loop
 loop-again c =
-    let s = c .before .before .before .before .before in
-    (omega arith, block-step (c .before .before .loop .inv .1) (s .pre .2) (omega (arith, s .pre .1)) (s .pre .3) (c .allowed-at .result) (c .allowed-at .ensures))
+    let s = c .before .before .before .before .before .before .before .before in
+    let w = c .before .before .before .allowed-at in
+    (omega arith, rw (c .before .before .run-of .ensures, c .before .run-of2 .ensures, c .run-of3 .ensures) (block-step (c .before .before .before .before .before .loop .inv .1) (s .pre .2) (omega (arith, s .pre .1)) (s .pre .3) (w .result) (w .ensures)))
 
 same-length : tie.Need-same-length Inv-loop μ-loop
 same-length c = c .before .loop .inv .1 .long
@@ -90,19 +85,17 @@ block-into-spec =
     μ-loop
     loop-holds
     allowed-at-requires
-    mul-columns
+    run-of-requires
     add-columns
-    mul-columns-2
+    mul-columns
     slice-write-columns
-    mul-columns-3
+    run-of-requires-2
     add-columns-2
-    add-columns-3
-    mul-columns-4
+    mul-columns-2
     slice-write-columns-2
-    mul-columns-5
-    add-columns-4
-    add-columns-5
-    mul-columns-6
+    run-of-requires-3
+    add-columns-3
+    mul-columns-3
     slice-write-columns-3
     add-i
     loop-less

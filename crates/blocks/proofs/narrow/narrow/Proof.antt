@@ -1,6 +1,7 @@
-use mathlib.Core.Path.{_≡_, ap}
-use Prim.Native.Nat.{ℕ, _+_, _-_, _*_, _≤_}
+use mathlib.Core.Path.{_≡_, ap, _∙_}
+use Prim.Native.Nat.{_-_, _≤_}
 use native.Mathlib.Omega.{arith}
+use Rattle.blocks.specs.Blocks.{runOf}
 use Rattle.blocks.proofs.Narrowing.{Narrowing, narrowing-start, narrowing-step, partner-low}
 use borrow.Author.Needs.{needs}
 use Rattle.blocks.proofs.narrow.narrow.Statement.{statement}
@@ -18,52 +19,39 @@ loop-holds c = (omega arith, narrowing-start _ _ _)
 partner-requires : tie.Need-partner-requires Inv-loop μ-loop
 partner-requires c κs = search needs
 
-mul-at : tie.Need-mul-at Inv-loop μ-loop
-mul-at c = search needs
-
 digit-at-requires : tie.Need-digit-at-requires Inv-loop μ-loop
 digit-at-requires c κs = search needs
 
-add-at : tie.Need-add-at Inv-loop μ-loop
-add-at c = search needs
-
-mul-at-2 : tie.Need-mul-at-2 Inv-loop μ-loop
-mul-at-2 c = search needs
-
-mul-also : tie.Need-mul-also Inv-loop μ-loop
-mul-also c = let l = c .before .before .before .loop in record { fits = omega (arith, partner-low (l .i) (c .before .before .before .before .before .before .args .n) (c .before .before .loop-test .taken) (c .before .partner .ensures), c .before .before .before .before .before .before .pre .0) }
+run-of-requires : tie.Need-run-of-requires Inv-loop μ-loop
+run-of-requires c κs = search needs
 
 digit-at-requires-2 : tie.Need-digit-at-requires-2 Inv-loop μ-loop
-digit-at-requires-2 c κs = let l = c .before .before .before .loop in omega (arith, partner-low (l .i) (c .before .before .before .before .before .before .args .n) (c .before .before .loop-test .taken) (c .before .partner .ensures), c .before .before .before .before .before .before .pre .0)
+digit-at-requires-2 c κs = omega (arith, partner-low (c .before .before .before .before .loop .i) (c .before .before .before .before .before .before .before .args .n) (c .before .before .before .loop-test .taken) (c .before .before .partner .ensures), c .before .before .before .before .before .before .before .pre .0)
 
-add-also : tie.Need-add-also Inv-loop μ-loop
-add-also c = let l = c .before .before .before .before .loop in record { fits = omega (arith, partner-low (l .i) (c .before .before .before .before .before .before .before .args .n) (c .before .before .before .loop-test .taken) (c .before .before .partner .ensures), c .before .before .before .before .before .before .before .pre .0, c .digit-at2 .ensures .1) }
-
-mul-also-2 : tie.Need-mul-also-2 Inv-loop μ-loop
-mul-also-2 c = let l = c .before .before .before .before .loop in record { fits = omega (arith, partner-low (l .i) (c .before .before .before .before .before .before .before .args .n) (c .before .before .before .loop-test .taken) (c .before .before .partner .ensures), c .before .before .before .before .before .before .before .pre .0, c .digit-at2 .ensures .1) }
+run-of-requires-2 : tie.Need-run-of-requires-2 Inv-loop μ-loop
+run-of-requires-2 c κs = (omega (arith, partner-low (c .before .before .before .before .before .loop .i) (c .before .before .before .before .before .before .before .before .args .n) (c .before .before .before .before .loop-test .taken) (c .before .before .before .partner .ensures), c .before .before .before .before .before .before .before .before .pre .0), c .digit-at2 .ensures .1)
 
 narrow-by-requires : tie.Need-narrow-by-requires Inv-loop μ-loop
 narrow-by-requires c κs =
-    let s = c .before .before .before .before .before .before .before .before in
-    let l = c .before .before .before .before .before .loop in
-    let p = partner-low (l .i) (s .args .n) (c .before .before .before .before .loop-test .taken) (c .before .before .before .partner .ensures) in
-    (omega (arith, c .before .before .before .before .loop-test .taken, s .pre .0, s .pre .1, s .pre .2, l .inv .1 .long, c .before .before .digit-at .ensures .1), omega (arith, p, s .pre .0, s .pre .1, s .pre .2, l .inv .1 .long, c .before .digit-at2 .ensures .1))
+    let s = c .before .before .before .before .before .before .before .before .before .before in
+    let l = c .before .before .before .before .before .before .before .loop in
+    let p = partner-low (l .i) (s .args .n) (c .before .before .before .before .before .before .loop-test .taken) (c .before .before .before .before .before .partner .ensures) in
+    (omega (arith, c .before .before .before .before .before .before .loop-test .taken, s .pre .0, s .pre .1, s .pre .2, l .inv .1 .long, c .before .before .before .run-of .ensures, c .before .before .before .before .digit-at .ensures .1), omega (arith, p, s .pre .0, s .pre .1, s .pre .2, l .inv .1 .long, c .before .run-of2 .ensures, c .before .before .digit-at2 .ensures .1))
 
 add-i : tie.Need-add-i Inv-loop μ-loop
-add-i c = let l = c .before .before .before .before .before .before .before .before .loop in record { fits = omega (arith, partner-low (l .i) (c .before .before .before .before .before .before .before .before .before .before .before .args .n) (c .before .before .before .before .before .before .before .loop-test .taken) (c .before .before .before .before .before .before .partner .ensures), c .before .before .before .before .before .before .before .before .before .before .before .pre .0) }
+add-i c = record { fits = omega (arith, partner-low (c .before .before .before .before .before .before .before .before .before .before .loop .i) (c .before .before .before .before .before .before .before .before .before .before .before .before .before .args .n) (c .before .before .before .before .before .before .before .before .before .loop-test .taken) (c .before .before .before .before .before .before .before .before .partner .ensures), c .before .before .before .before .before .before .before .before .before .before .before .before .before .pre .0) }
 
 loop-less : tie.Need-loop-less Inv-loop μ-loop
-loop-less c = let l = c .before .before .before .before .before .before .before .before .loop in omega (arith, partner-low (l .i) (c .before .before .before .before .before .before .before .before .before .before .before .args .n) (c .before .before .before .before .before .before .before .loop-test .taken) (c .before .before .before .before .before .before .partner .ensures))
+loop-less c = omega (arith, partner-low (c .before .before .before .before .before .before .before .before .before .before .loop .i) (c .before .before .before .before .before .before .before .before .before .before .before .before .before .args .n) (c .before .before .before .before .before .before .before .before .before .loop-test .taken) (c .before .before .before .before .before .before .before .before .partner .ensures))
 
 loop-again : tie.Need-loop-again Inv-loop μ-loop
 loop-again c =
-    let s = c .before .before .before .before .before .before .before .before .before .before .before in
-    let l = c .before .before .before .before .before .before .before .before .loop in
-    let d = c .before .before .before .before .before .digit-at in
-    let e = c .before .before .before .before .digit-at2 in
+    let s = c .before .before .before .before .before .before .before .before .before .before .before .before .before in
+    let l = c .before .before .before .before .before .before .before .before .before .before .loop in
+    let q = c .before .before .before .before .before .before .before .before .partner in
     let b = c .before .before .narrow-by in
-    let p = partner-low (l .i) (s .args .n) (c .before .before .before .before .before .before .before .loop-test .taken) (c .before .before .before .before .before .before .partner .ensures) in
-    (omega (arith, p), narrowing-step (l .inv .1) (b .last .1 .1 .1 .0) (b .kept .1 .1 .1 .0) (s .args .n) (c .before .before .before .before .before .before .partner .ensures) (ap (λ (y : ℕ). 32 * (3 * l .i + y)) (d .ensures .0)) (ap (λ (y : ℕ). 32 * (3 * c .before .before .before .before .before .before .partner .result + y)) (e .ensures .0)) (b .ensures))
+    let p = partner-low (l .i) (s .args .n) (c .before .before .before .before .before .before .before .before .before .loop-test .taken) (q .ensures) in
+    (omega (arith, p), narrowing-step (l .inv .1) (b .last .1 .1 .1 .0) (b .kept .1 .1 .1 .0) (s .args .n) (q .ensures) (c .before .before .before .before .before .before .run-of .ensures ∙ ap (runOf (l .i)) (c .before .before .before .before .before .before .before .digit-at .ensures .0)) (c .before .before .before .before .run-of2 .ensures ∙ ap (runOf (q .result)) (c .before .before .before .before .before .digit-at2 .ensures .0)) (b .ensures))
 
 same-length : tie.Need-same-length Inv-loop μ-loop
 same-length c = search needs
@@ -83,14 +71,10 @@ narrow-spec =
     μ-loop
     loop-holds
     partner-requires
-    mul-at
     digit-at-requires
-    add-at
-    mul-at-2
-    mul-also
+    run-of-requires
     digit-at-requires-2
-    add-also
-    mul-also-2
+    run-of-requires-2
     narrow-by-requires
     add-i
     loop-less

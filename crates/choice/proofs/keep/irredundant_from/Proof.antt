@@ -7,23 +7,30 @@ use Rattle.cube.specs.Mask.{cubeOf}
 use Rattle.cube.specs.Entry.{cubeIn}
 use Rattle.choice.specs.Flag.{Unflagged}
 use Rattle.choice.proofs.Flags.{unflagged-start, unflagged-low, flag-is, unflagged-next, product-test}
+use Rattle.choice.proofs.Lowering.{noted-low}
 use Rattle.choice.proofs.Keeping.{Keeping, keeping-start, keeping-turn, keeping-skip, keeping-keep, keeping-end}
 use borrow.Author.Needs.{needs}
 use Rattle.choice.proofs.keep.irredundant_from.Statement.{statement}
 use Rattle.choice.proofs.keep.irredundant_from.Tie as tie
 
 abbrev Inv-loop : tie.InvT-loop
-Inv-loop n required columns firsts products₀ uncovered₀ taken₀ flags₀ kept₀ j₀ products uncovered taken flags kept j = Keeping n required products₀ products flags kept j × Unflagged (length required) flags uncovered × (length uncovered ≡ length uncovered₀) × (length taken ≡ length taken₀) × (length flags ≡ 2048)
+Inv-loop n required columns firsts products₀ uncovered₀ taken₀ flags₀ lowest kept₀ j₀ products uncovered taken flags kept j = Keeping n required products₀ products flags kept j × Unflagged (length required) flags uncovered × (length uncovered ≡ length uncovered₀) × (length taken ≡ length taken₀) × (length flags ≡ 2048)
 
 abbrev μ-loop : tie.MeasureT-loop
-μ-loop n required columns firsts products₀ uncovered₀ taken₀ flags₀ kept₀ j₀ products uncovered taken flags kept j = j
+μ-loop n required columns firsts products₀ uncovered₀ taken₀ flags₀ lowest kept₀ j₀ products uncovered taken flags kept j = j
+
+slice-aggregate-lowest-into : tie.Need-slice-aggregate-lowest-into Inv-loop μ-loop
+slice-aggregate-lowest-into c = search needs
+
+lowest-into-requires : tie.Need-lowest-into-requires Inv-loop μ-loop
+lowest-into-requires c κs = let h = c .before .before .before .before .before .before .before .pre .0 .1 in (omega (arith, h .whole, h .many), refl, noted-low h)
 
 whole-into-requires : tie.Need-whole-into-requires Inv-loop μ-loop
 whole-into-requires c κs = search needs
 
 loop-holds : tie.Need-loop-holds Inv-loop μ-loop
 loop-holds c =
-    let s = c .before .before .before .before .before .before .before .before .before .before in
+    let s = c .before .before .before .before .before .before .before .before .before .before .before .before .before in
     let w = c .before .before .whole-into in (
       keeping-start (s .pre .0 .1),
       unflagged-start 2048 (length (s .args .required .now)) (w .last .1 .0) (omega (arith, s .pre .1 .1, w .kept .1 .0)) (λ k l. w .ensures k (omega (arith, w .kept .1 .0))),
@@ -47,14 +54,14 @@ slice-aggregate-needed c = search needs
 cast-needed : tie.Need-cast-needed Inv-loop μ-loop
 cast-needed c = search needs
 
-transition-in-requires : tie.Need-transition-in-requires Inv-loop μ-loop
-transition-in-requires c κs = search needs
+mul-needed : tie.Need-mul-needed Inv-loop μ-loop
+mul-needed c = search needs
 
-cast-needed-2 : tie.Need-cast-needed-2 Inv-loop μ-loop
-cast-needed-2 c = search needs
+array-read-needed : tie.Need-array-read-needed Inv-loop μ-loop
+array-read-needed c = let s = c .before .before .before .before .before .before .before .before .before .before .before .before .before .before .before .before .before in let l = c .before .before .before .loop in omega (arith, l .inv .0 .order, l .inv .0 .inside·, l .inv .0 .long, s .pre .0 .1 .few, s .pre .0 .1 .many)
 
 needed-requires : tie.Need-needed-requires Inv-loop μ-loop
-needed-requires c κs = omega (arith, c .before .before .before .before .before .before .before .before .before .before .before .before .before .before .before .pre .0 .1 .whole, c .before .before .before .before .before .before .before .before .before .before .before .before .before .before .before .pre .0 .1 .many, c .before .before .before .before .loop .inv .4)
+needed-requires c κs = omega (arith, c .before .before .before .before .before .before .before .before .before .before .before .before .before .before .before .before .before .pre .0 .1 .whole, c .before .before .before .before .before .before .before .before .before .before .before .before .before .before .before .before .before .pre .0 .1 .many, c .before .before .before .loop .inv .4)
 
 sub-kept : tie.Need-sub-kept Inv-loop μ-loop
 sub-kept c = search needs
@@ -73,9 +80,9 @@ slice-aggregate-flag-product c = search needs
 
 flag-product-requires : tie.Need-flag-product-requires Inv-loop μ-loop
 flag-product-requires c κs =
-    let s = c .before .before .before .before .before .before .before .before .before .before .before .before .before .before .before .before .before .before .before .before .before in
-    let w = c .before .before .before .before .before .before .before .before .before .before .before .before .before .whole-into in
-    let l = c .before .before .before .before .before .before .before .before .before .before .loop in (
+    let s = c .before .before .before .before .before .before .before .before .before .before .before .before .before .before .before .before .before .before .before .before .before .before .before in
+    let w = c .before .before .before .before .before .before .before .before .before .before .before .before .whole-into in
+    let l = c .before .before .before .before .before .before .before .before .before .loop in (
       (s .pre .0 .0, s .pre .0 .2 .long, omega (arith, l .inv .2, w .kept .1 .0, s .pre .1 .0), l .inv .3 ∙ s .pre .1 .2 ∙ sym (w .kept .1 .0) ∙ sym (l .inv .2)),
       λ i t. omega (arith, unflagged-low (length (s .args .required .now)) (l .flags) (l .uncovered) (l .inv .1) i t, s .pre .0 .1 .many, l .inv .4),
     )
@@ -85,15 +92,15 @@ loop-less c = search needs
 
 loop-again : tie.Need-loop-again Inv-loop μ-loop
 loop-again c =
-    let s = c .before .before .before .before .before .before .before .before .before .before .before .before .before .before .before .before .before .before .before .before .before .before .before .before .before .before .before in
-    let l = c .before .before .before .before .before .before .before .before .before .before .before .before .before .before .before .before .loop in
-    let w = c .before .before .before .before .before .before .before .before .before .before .before .before .before .before .before .before .before .before .before .whole-into in
+    let s = c .before .before .before .before .before .before .before .before .before .before .before .before .before .before .before .before .before .before .before .before .before .before .before .before .before .before .before .before .before in
+    let l = c .before .before .before .before .before .before .before .before .before .before .before .before .before .before .before .loop in
+    let w = c .before .before .before .before .before .before .before .before .before .before .before .before .before .before .before .before .before .before .whole-into in
     let k = c .before .before .before .before .before .before .before .before .before .cube-in in
     let z = c .before .before .before .before .before .flag-product in
     let p = getD (l .products) (l .j - 1) 0 in
     let e : cubeOf (s .args .n) (k .result) ≡ cubeIn (s .args .n) p = rw (k .ensures .0, k .ensures .1) in
     let wide : length (s .args .required .now) ≤ 64 * length (l .uncovered) = omega (arith, l .inv .2, w .kept .1 .0, s .pre .1 .1) in (
-      keeping-keep (s .pre .0 .1) (keeping-turn (s .pre .0 .1) (l .inv .0) (c .before .before .before .before .before .before .before .before .before .before .before .before .before .before .before .loop-test .taken)) (sym (c .before .before .before .before .before .before .before .before .before .before .before .needed .ensures) ∙ c .before .before .before .before .before .before .before .before .before .before .if1 .taken)
+      keeping-keep (s .pre .0 .1) (keeping-turn (s .pre .0 .1) (l .inv .0) (omega (arith, c .before .before .before .before .before .before .before .before .before .before .before .before .before .before .loop-test .taken))) (sym (c .before .before .before .before .before .before .before .before .before .before .before .needed .ensures) ∙ c .before .before .before .before .before .before .before .before .before .before .if1 .taken)
           (λ i a. flag-is (z .ensures) (l .inv .1) wide i a ∙ rw (product-test (s .pre .0 .2) (k .result) p e i a)),
       unflagged-next (z .ensures) (l .inv .1) wide (z .kept .1 .1 .1 .0),
       z .kept .1 .1 .1 .0 ∙ l .inv .2,
@@ -106,8 +113,8 @@ loop-less-2 c = search needs
 
 loop-again-2 : tie.Need-loop-again-2 Inv-loop μ-loop
 loop-again-2 c =
-    let s = c .before .before .before .before .before .before .before .before .before .before .before .before .before .before .before .before .before in
-    let l = c .before .before .before .before .before .before .loop in
+    let s = c .before .before .before .before .before .before .before .before .before .before .before .before .before .before .before .before .before .before .before in
+    let l = c .before .before .before .before .before .loop in
     (keeping-skip (s .pre .0 .1) (keeping-turn (s .pre .0 .1) (l .inv .0) (omega arith)) (sym (c .before .needed .ensures) ∙ c .if1 .left), l .inv .1, l .inv .2, l .inv .3, l .inv .4)
 
 same-length : tie.Need-same-length Inv-loop μ-loop
@@ -121,7 +128,7 @@ same-length-3 c = c .before .loop .inv .3
 
 returns : tie.Need-returns Inv-loop μ-loop
 returns c =
-    let s = c .before .before .before .before .before .before .before .before .before .before .before .before in
+    let s = c .before .before .before .before .before .before .before .before .before .before .before .before .before .before .before in
     let l = c .before .loop in
     let e : l .j ≡ 0 = omega arith in
     keeping-end (s .pre .0 .1) (rw e at (l .inv .0))
@@ -132,6 +139,8 @@ irredundant-from-spec =
     (tie.spec
     Inv-loop
     μ-loop
+    slice-aggregate-lowest-into
+    lowest-into-requires
     whole-into-requires
     loop-holds
     sub-j
@@ -139,8 +148,8 @@ irredundant-from-spec =
     slice-read-p
     slice-aggregate-needed
     cast-needed
-    transition-in-requires
-    cast-needed-2
+    mul-needed
+    array-read-needed
     needed-requires
     sub-kept
     mul-products

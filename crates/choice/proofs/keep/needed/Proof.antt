@@ -16,7 +16,7 @@ returns : tie.Need-returns
 returns c =
     let a = c .before .before .before .before .before .args in
     let t = neededIn (a .firsts .now) (a .flags .now) (a .j) in
-    sym (is {b = found (first t 0 (length (a .firsts .now)))} (any-i t (length (a .firsts .now)) (a .made-for) (omega arith) (so (sym (c .before .needed-at .ensures) ∙ c .if2 .taken))))
+    sym (is {b = found (first t 0 (length (a .firsts .now)))} (any-i t (length (a .firsts .now)) (a .lowest) (omega arith) (so (sym (c .before .needed-at .ensures) ∙ c .if2 .taken))))
 
 needed-by-any-requires : tie.Need-needed-by-any-requires
 needed-by-any-requires c κs = search needs

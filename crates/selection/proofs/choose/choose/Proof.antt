@@ -78,9 +78,6 @@ returns c =
 enum-known-made-2 : tie.Need-enum-known-made-2 Inv-loop μ-loop
 enum-known-made-2 c = search needs
 
-cast-pack : tie.Need-cast-pack Inv-loop μ-loop
-cast-pack c = omega (arith, c .before .before .before .before .before .before .before .loop .inv .0 .choosing .many, c .before .before .before .before .before .before .loop-test .taken)
-
 pack-requires : tie.Need-pack-requires Inv-loop μ-loop
 pack-requires c κs = search needs
 
@@ -197,7 +194,6 @@ choose-spec =
     same-length-4
     returns
     enum-known-made-2
-    cast-pack
     pack-requires
     mul-products
     slice-write-products
