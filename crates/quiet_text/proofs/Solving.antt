@@ -22,7 +22,7 @@ use Rattle.hazard.specs.Minimal.{roomCheck, blocking, minimiserChecks, Minimal,
 use Rattle.hazard.proofs.Test.{T-and}
 use Rattle.hazard.proofs.Search.{none-some, firstOf-left, firstOf-right, firstOf-one, firstOf-append}
 use Rattle.hazard.proofs.Rules.{few-inputs, required-few}
-use Rattle.hazard.proofs.Numbers.{block-number, no-more, next, numbers-append, listed, number-listed, input-numbers}
+use Rattle.hazard.proofs.Numbers.{block-number, Numbers, no-more, next, numbers-append, listed, number-listed, input-numbers}
 use Rattle.problem_text.specs.Decimal.{decimal}
 use Rattle.problem_text.specs.Form.{newline, cell}
 use Rattle.answer_text.specs.Output.{productsHead, productLines, networkText, field, refusalText}
@@ -34,9 +34,10 @@ use Rattle.answer_text.proofs.Replies.{lines-most}
 module _ (n : ℕ) (f ts : List ℕ) where
   -- 9 is none of the numbers.
   pub never-nine : (q : Refusal) → firstOf (checks n f ts) ≡ some q → q .number ≢ 9
-  never-nine q e h =
-      subst (λ (k : ℕ). T (listed k (1 ∷ 2 ∷ 3 ∷ 4 ∷ 5 ∷ 6 ∷ 7 ∷ 8 ∷ 10 ∷ []))) h
-      (number-listed (numbers-append (input-numbers n f ts) (next (block-number n f ts) no-more)) e)
+  never-nine q e h = subst (λ (k : ℕ). T (listed k (numbers .0))) h (number-listed (numbers .1) e)
+    where
+      abbrev numbers : (ks : List ℕ) × Numbers ks (checks n f ts)
+      numbers = (_, numbers-append (input-numbers n f ts .1) (next (block-number n f ts) no-more))
 
   module _ {room : ℕ} (h : 20480 ≤ room) where
     -- The room is enough, so check 9 finds nothing.
