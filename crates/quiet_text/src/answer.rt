@@ -1,6 +1,6 @@
 // The program's call: the output for a text.
 ghost use mathlib.Core.Option.{some};
-ghost use Prim.Native.Nat.{_≤_};
+ghost use Prim.Native.Nat.{_/_, _≤_};
 ghost use lib.ListN.{length};
 ghost use Rattle.hazard.specs.Limits.{mostCover};
 ghost use Rattle.answer_text.specs.Output.{mostOutput};
@@ -40,7 +40,7 @@ fn reply_with(
     cover: &mut [u8],
     out: &mut [u8],
 ) -> usize
-    requires { ⌜ (4096 ≤ length (now table)) × (2048 ≤ length (now transitions)) × (mostCover ≤ length (now cover)) × (mostOutput ≤ length (now out)) ⌝ }
+    requires { ⌜ (4096 ≤ length (now table)) × (4096 / 2 ≤ length (now transitions)) × (mostCover ≤ length (now cover)) × (mostOutput ≤ length (now out)) ⌝ }
     ensures { λ r. ⌜ Replied (now (text .entry)) (now (out .entry)) (now (out .exit)) (some r) ⌝ }
 {
     let Read::Problem(n, k, t) = read_problem(text, table, transitions) else {
@@ -55,7 +55,7 @@ pub fn reply(text: &[u8], out: &mut [u8]) -> usize
     ensures { λ r. ⌜ Replied (now (text .entry)) (now (out .entry)) (now (out .exit)) (some r) ⌝ }
 {
     let mut table = [0u8; 4096];
-    let mut transitions = [0u16; 2048];
+    let mut transitions = [0u16; 4096 / 2];
     let mut cover = [0u8; MOST_COVER];
     reply_with(text, &mut table, &mut transitions, &mut cover, out)
 }
