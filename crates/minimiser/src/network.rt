@@ -10,7 +10,7 @@ ghost use Rattle.selection.specs.Answer.{minimisedOf, Answered};
 ghost use Rattle.minimiser.specs.Room.{Room, Columns};
 use blocks::fill::blocks_into;
 use columns::relation::Relation;
-use expand::meeting::columns_into;
+use legality::meeting::columns_into;
 use sets::sets::sets_into;
 use selection::minimised::Minimised;
 use selection::select::select;

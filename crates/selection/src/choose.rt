@@ -4,7 +4,7 @@ ghost use Prim.Native.Nat.{ℕ, _*_, _≤_, _<_};
 ghost use lib.ListN.{length, getD};
 ghost use Rattle.cube.specs.Entry.{CleanWord};
 ghost use Rattle.points.specs.Ready.{Ready};
-ghost use Rattle.expand.specs.Columns.{Columns};
+ghost use Rattle.legality.specs.Columns.{Columns};
 ghost use Rattle.choice.specs.Rows.{Inside};
 ghost use Rattle.selection.specs.Choose.{Choice};
 use crate::minimised::Minimised;

@@ -6,7 +6,7 @@ ghost use lib.ListN.{length, getD};
 ghost use Rattle.cube.specs.Entry.{requiredIn, privilegedIn, CleanWord};
 ghost use Rattle.cube.specs.PointSet.{inSet};
 ghost use Rattle.points.specs.Ready.{Ready};
-ghost use Rattle.expand.specs.Columns.{Columns};
+ghost use Rattle.legality.specs.Columns.{Columns};
 ghost use Rattle.choice.specs.Rows.{Inside};
 ghost use Rattle.selection.specs.Answer.{minimisedOf, Answered};
 use crate::choose::choose;

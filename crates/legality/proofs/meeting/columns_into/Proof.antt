@@ -1,7 +1,7 @@
-use Rattle.expand.proofs.Illegal.{columns-made}
+use Rattle.legality.proofs.Illegal.{columns-made}
 use borrow.Author.Needs.{needs}
-use Rattle.expand.proofs.meeting.columns_into.Statement.{statement}
-use Rattle.expand.proofs.meeting.columns_into.Tie as tie
+use Rattle.legality.proofs.meeting.columns_into.Statement.{statement}
+use Rattle.legality.proofs.meeting.columns_into.Tie as tie
 
 sub-table-into : tie.Need-sub-table-into
 sub-table-into c = search needs

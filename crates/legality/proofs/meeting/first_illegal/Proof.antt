@@ -5,8 +5,8 @@ use Rattle.hazard.specs.Implicant.{illegal}
 use Rattle.cube.specs.Mask.{cubeOf}
 use Rattle.cube.specs.Entry.{privilegedIn}
 use Rattle.columns.proofs.Selecting.{rows-find-none, rows-find-low, rows-find}
-use Rattle.expand.proofs.meeting.first_illegal.Statement.{statement}
-use Rattle.expand.proofs.meeting.first_illegal.Tie as tie
+use Rattle.legality.proofs.meeting.first_illegal.Statement.{statement}
+use Rattle.legality.proofs.meeting.first_illegal.Tie as tie
 
 illegal-rows-requires : tie.Need-illegal-rows-requires
 illegal-rows-requires c κs = search needs

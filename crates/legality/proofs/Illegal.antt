@@ -15,7 +15,7 @@ use Rattle.columns.specs.declared.relation.Relation.the-variants.{Meets, PointI
 use Rattle.columns.proofs.Filling.{table-append}
 use Rattle.columns.proofs.Narrowing.{narrowed, wordAt, word-is, narrowed-rows, digit-lt}
 use Rattle.columns.proofs.Selecting.{rows-less}
-use Rattle.expand.specs.Columns.{Columns}
+use Rattle.legality.specs.Columns.{Columns}
 
 -- The first 30 words of 60 overwritten with one table, then the other 30 with a second.
 pub columns-made : {n : ℕ} {privileged : List ℕ} (columns first second : List ℕ) → n ≤ 10 → length privileged ≤ 64 → length columns ≡ 60

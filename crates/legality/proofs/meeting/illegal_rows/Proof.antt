@@ -4,9 +4,9 @@ use native.Mathlib.Omega.{arith}
 use lib.ListN.{take, drop}
 use borrow.Author.Needs.{needs}
 use Rattle.columns.proofs.Narrowing.{narrowed, wordAt, narrowed-step}
-use Rattle.expand.proofs.Illegal.{meets-word, start-word, illegal-are}
-use Rattle.expand.proofs.meeting.illegal_rows.Statement.{statement}
-use Rattle.expand.proofs.meeting.illegal_rows.Tie as tie
+use Rattle.legality.proofs.Illegal.{meets-word, start-word, illegal-are}
+use Rattle.legality.proofs.meeting.illegal_rows.Statement.{statement}
+use Rattle.legality.proofs.meeting.illegal_rows.Tie as tie
 
 abbrev Inv-loop : tie.InvT-loop
 Inv-loop n privileged columns c all meets₀ holds₀ i₀ meets holds i = (i ≤ n) × (meets ≡ narrowed (wordAt (take 30 columns) (c .care) (c .value)) i all) × (holds ≡ narrowed (wordAt (drop 30 columns) (c .care) (c .value)) i all)
