@@ -11,9 +11,9 @@ ghost use Rattle.minimiser.specs.Room.{Room, Columns};
 use blocks::fill::blocks_into;
 use columns::relation::Relation;
 use legality::meeting::columns_into;
-use sets::sets::sets_into;
 use selection::minimised::Minimised;
 use selection::select::select;
+use sets::sets::sets_into;
 
 // The problem's sets are stored in the lent room, and covered. `off` and `ones` are the table's planes of 0 and of 1.
 fn cover_with(
