@@ -4,17 +4,10 @@ ghost use mathlib.Core.Path.{_≡_};
 ghost use Prim.Native.Nat.{_^_, _≤_, _<_};
 ghost use lib.ListN.{length};
 ghost use Rattle.cube.specs.PointSet.{inSet};
-ghost use Rattle.points.specs.PointWord.{WordOf};
-ghost use Rattle.points.specs.Turn.{turns, lasts, masked};
+ghost use Rattle.points.specs.PointWord.{WordOf, masked};
+ghost use Rattle.moves.specs.Turn.{turns, lasts};
 use crate::further::further_word;
-
-// The points of word w that are in the set, under the mask.
-pub fn set_points(set: &[u64], w: usize, m: u64) -> u64
-    requires { ⌜ w < length (now set) ⌝ }
-    ensures { λ r. ⌜ WordOf (masked m (inSet (now (set .entry)))) w r ⌝ }
-{
-    set[w] & m
-}
+use points::word::set_points;
 
 // The points of word w that are in the set `from`, under the mask, and from which some move leads into the set `to`.
 pub fn turning_points(n: usize, from: &[u64], to: &[u64], a: u16, b: u16, w: usize, m: u64) -> u64

@@ -5,12 +5,12 @@ use lib.ListN.{getD}
 use Rattle.hazard.specs.Cube.{flip}
 use Rattle.hazard.proofs.Point.{flip-lt}
 use Rattle.cube.specs.PointSet.{inSet}
 use Rattle.points.specs.PointWord.{WordOf}
-use Rattle.points.specs.Further.{movesFrom}
-use Rattle.points.proofs.FurtherWord.{across-none, across-here}
+use Rattle.moves.specs.Further.{movesFrom}
+use Rattle.moves.proofs.FurtherWord.{across-none, across-here}
 use borrow.Author.Needs.{needs}
-use Rattle.points.proofs.further.across.Statement.{statement}
-use Rattle.points.proofs.further.across.Tie as tie
+use Rattle.moves.proofs.further.across.Statement.{statement}
+use Rattle.moves.proofs.further.across.Tie as tie
 
 cast-u : tie.Need-cast-u
 cast-u c = search needs

@@ -1,9 +1,9 @@
 use native.Mathlib.Omega.{arith}
 use lib.Count.{trailing-le}
 use Rattle.cube.specs.PointSet.{inSet}
-use Rattle.points.proofs.Movement.{Moving, moving-start, moving-input, moving-less, moving-more, moving-end}
-use Rattle.points.proofs.further.further_word.Statement.{statement}
-use Rattle.points.proofs.further.further_word.Tie as tie
+use Rattle.moves.proofs.Movement.{Moving, moving-start, moving-input, moving-less, moving-more, moving-end}
+use Rattle.moves.proofs.further.further_word.Statement.{statement}
+use Rattle.moves.proofs.further.further_word.Tie as tie
 
 abbrev Inv-loop : tie.InvT-loop
 Inv-loop n set a b w word₀ left₀ word left = Moving n (inSet set) a b w left word

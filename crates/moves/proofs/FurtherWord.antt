@@ -17,9 +17,9 @@ use Rattle.hazard.proofs.Test.{T-and}
 use Rattle.hazard.proofs.Point.{flip-up, flip-down, flip-lt}
 use Rattle.cube.specs.PointSet.{inSet}
 use Rattle.cube.proofs.WordMask.{high-bit, low-bit, mod-bit, no-bit, and-test}
 use Rattle.points.specs.PointWord.{WordOf}
-use Rattle.points.specs.Further.{Side, Within, movesFrom}
+use Rattle.moves.specs.Further.{Side, Within, movesFrom}
 use Rattle.points.proofs.PlaneWord.{one-is}
 
 -- All the numbers below size pass a test.
 abbrev pub all : (ℕ → Bool) → ℕ → Bool

@@ -1,10 +1,10 @@
 use mathlib.Core.Bool.{not}
 use Rattle.cube.specs.PointSet.{inSet}
-use Rattle.points.specs.Further.{furtherIn}
-use Rattle.points.proofs.TurnWord.{word-none, mask-but}
+use Rattle.moves.specs.Further.{furtherIn}
+use Rattle.moves.proofs.TurnWord.{word-none, mask-but}
 use borrow.Author.Needs.{needs}
-use Rattle.points.proofs.turn.last_points.Statement.{statement}
-use Rattle.points.proofs.turn.last_points.Tie as tie
+use Rattle.moves.proofs.turn.last_points.Statement.{statement}
+use Rattle.moves.proofs.turn.last_points.Tie as tie
 
 set-points-requires : tie.Need-set-points-requires
 set-points-requires c κs = search needs

@@ -1,10 +1,10 @@
 use mathlib.Core.Path.{_≡_}
 use native.Mathlib.Omega.{arith}
-use Rattle.points.specs.Further.{Side}
-use Rattle.points.proofs.FurtherWord.{by-is, by-few, within-zero, within-one}
+use Rattle.moves.specs.Further.{Side}
+use Rattle.moves.proofs.FurtherWord.{by-is, by-few, within-zero, within-one}
 use borrow.Author.Needs.{needs}
-use Rattle.points.proofs.further.within.Statement.{statement}
-use Rattle.points.proofs.further.within.Tie as tie
+use Rattle.moves.proofs.further.within.Statement.{statement}
+use Rattle.moves.proofs.further.within.Tie as tie
 
 shl-by : tie.Need-shl-by
 shl-by c = search needs

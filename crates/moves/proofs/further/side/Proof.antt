@@ -2,10 +2,10 @@ use mathlib.Core.List.{List, [], _∷_}
 use Prim.Native.Nat.{ℕ}
 use lib.Dec.{T}
 use lib.ListN.{getD}
-use Rattle.points.proofs.FurtherWord.{all, isSide, side-of}
+use Rattle.moves.proofs.FurtherWord.{all, isSide, side-of}
 use borrow.Author.Needs.{needs}
-use Rattle.points.proofs.further.side.Statement.{statement}
-use Rattle.points.proofs.further.side.Tie as tie
+use Rattle.moves.proofs.further.side.Statement.{statement}
+use Rattle.moves.proofs.further.side.Tie as tie
 
 mul-result : tie.Need-mul-result
 mul-result c = search needs

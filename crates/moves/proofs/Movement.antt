@@ -21,10 +21,10 @@ use Rattle.cube.proofs.Bits.{bit-case2, or-last, one-shl}
 use Rattle.cube.proofs.Points.{flip-xor}
 use Rattle.cube.proofs.ByWords.{Lowest, lowest-bit}
 use Rattle.cube.proofs.WordMask.{no-bit, xor-bits}
 use Rattle.points.specs.PointWord.{WordOf}
-use Rattle.points.specs.Further.{movesFrom, movesInto, furtherIn}
+use Rattle.moves.specs.Further.{movesFrom, movesInto, furtherIn}
 use Rattle.points.proofs.PlaneWord.{bit-past}
 use Rattle.points.proofs.Agree.{first-same}
 
 or-bits : (a b i : ℕ) → bit (bitOr a b) i ≡ bitOr (bit a i) (bit b i)
 or-bits a b i = ap (λ (y : ℕ). y % 2) (or-shr a b i) ∙ or-last (a / 2 ^ i) (b / 2 ^ i)

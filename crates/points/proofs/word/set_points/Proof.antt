@@ -1,8 +1,8 @@
 use native.Mathlib.Omega.{arith}
-use Rattle.points.proofs.TurnWord.{set-word}
+use Rattle.points.proofs.Masked.{set-word}
 use borrow.Author.Needs.{needs}
-use Rattle.points.proofs.turn.set_points.Statement.{statement}
-use Rattle.points.proofs.turn.set_points.Tie as tie
+use Rattle.points.proofs.word.set_points.Statement.{statement}
+use Rattle.points.proofs.word.set_points.Tie as tie
 
 mul-result : tie.Need-mul-result
 mul-result c = search needs

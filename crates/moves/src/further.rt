@@ -5,8 +5,8 @@ ghost use Prim.Native.Nat.{_+_, _^_, _≤_, _<_};
 ghost use lib.ListN.{length};
 ghost use Rattle.hazard.specs.Cube.{bit};
 ghost use Rattle.cube.specs.PointSet.{inSet};
 ghost use Rattle.points.specs.PointWord.{WordOf};
-ghost use Rattle.points.specs.Further.{Side, Within, movesFrom, furtherIn};
+ghost use Rattle.moves.specs.Further.{Side, Within, movesFrom, furtherIn};
 use cube::point::bit_of;
 use cube::point::flipped;
 

@@ -1,39 +1,20 @@
 -- Words of two tests.
 use mathlib.Core.Path.{_≡_, refl, sym, ap, ap₂, _∙_}
-use mathlib.Core.Bool.{Bool, true, false, not, _&&_}
-use mathlib.Core.List.{List}
-use Prim.Native.Nat.{ℕ, _/_, _%_, _^_, _<_}
+use mathlib.Core.Bool.{Bool, not, _&&_}
+use Prim.Native.Nat.{ℕ, _/_, _%_, _^_}
 use native.Mathlib.Nat.{lt-of-le-of-lt}
 use native.Mathlib.Omega.{arith}
 use lib.Dec.{eqb}
-use lib.Bits.{bitAnd, bitXor, and-le-l, and-le-r, xor-lt}
-use lib.ListN.{getD}
+use lib.Bits.{bitAnd, bitXor, and-le-l, xor-lt}
 use Rattle.hazard.specs.Cube.{bit}
-use Rattle.cube.specs.PointSet.{inSet}
 use Rattle.cube.proofs.Bits.{bit-case2}
-use Rattle.cube.proofs.WordMask.{no-bit, and-bits, xor-bits, and-test}
-use Rattle.points.specs.PointWord.{WordOf}
-use Rattle.points.specs.Turn.{masked}
-
--- The points of a set under a mask.
-pub set-word : (words : List ℕ) (w m : ℕ) → m < 2 ^ 64 → WordOf (masked m (inSet words)) w (bitAnd (getD words w 0) m)
-set-word words w m h =
-    record {
-      small = lt-of-le-of-lt (and-le-r (getD words w 0) m) h;
-      bits = λ x q. and-test (getD words w 0) m (x % 64) ∙ ap (λ (v : ℕ). eqb (bit m (x % 64)) 1 && eqb (bit (getD words v 0) (x % 64)) 1) (sym q);
-    }
-
--- No point passes.
-pub none-passes : {test : ℕ → Bool} {w r : ℕ} → WordOf test w r → r ≡ 0 → (x : ℕ) → x / 64 ≡ w → test x ≡ false
-none-passes {r = r} s e x q = sym (s .bits x q) ∙ ap (λ (y : ℕ). eqb y 1) (no-bit r (x % 64) e)
+use Rattle.cube.proofs.WordMask.{no-bit, and-bits, xor-bits}
+use Rattle.points.specs.PointWord.{WordOf, masked}
+use Rattle.points.proofs.Masked.{none-passes, and-assoc}
 
 -- The same test, written otherwise.
 word-as : {s t : ℕ → Bool} {w r : ℕ} → ((x : ℕ) → s x ≡ t x) → WordOf s w r → WordOf t w r
 word-as h s = record { small = s .small; bits = λ x q. s .bits x q ∙ h x }
-
-pub and-assoc : (a b d : Bool) → ((a && b) && d) ≡ (a && (b && d))
-and-assoc true b d = refl
-and-assoc false b d = refl
 
 pub word-none : (m : ℕ) (test also : ℕ → Bool) {w r : ℕ} → WordOf (masked m test) w r → r ≡ 0 → WordOf (masked m (λ x. test x && also x)) w 0
 word-none m test also s e =

@@ -1,10 +1,10 @@
 use mathlib.Core.Path.{_≡_}
 use Prim.Native.Nat.{_+_, _-_}
 use native.Mathlib.Omega.{arith}
-use Rattle.points.proofs.FurtherWord.{within-word}
+use Rattle.moves.proofs.FurtherWord.{within-word}
 use borrow.Author.Needs.{needs}
-use Rattle.points.proofs.further.moving.Statement.{statement}
-use Rattle.points.proofs.further.moving.Tie as tie
+use Rattle.moves.proofs.further.moving.Statement.{statement}
+use Rattle.moves.proofs.further.moving.Tie as tie
 
 bit-of-requires : tie.Need-bit-of-requires
 bit-of-requires c κs = search needs
