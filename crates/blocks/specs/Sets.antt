@@ -6,6 +6,10 @@ use Prim.Native.Nat.{ℕ, _*_, _<_}
 use lib.ListN.{length}
 use Rattle.cube.specs.PointSet.{inSet}
 
+-- The most words of a set: rows are counted in 16 bits, and 65,536 of them are 1,024 words.
+abbrev pub mostWords : ℕ
+mostWords = 1024
+
 -- The rows of a set that pass the test have gone over into another set.
 pub record Split (test : ℕ → Bool) (before after taken : List ℕ) : Type 0 where
   pub long : length taken ≡ length before
