@@ -1,3 +1,4 @@
+pub mod Places
 pub mod Narrowing
 pub mod Splitting
 pub mod Members

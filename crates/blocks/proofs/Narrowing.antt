@@ -13,7 +13,7 @@ use Rattle.cube.specs.PointSet.{inSet}
 use Rattle.cube.specs.declared.mask.Cube.{Cube}
 use Rattle.hazard.proofs.Test.{so}
 use Rattle.columns.proofs.Narrowing.{and-test}
-use Rattle.blocks.specs.Blocks.{digitAt, runOf, wordAt, allowed, allowedTo}
+use Rattle.blocks.specs.Blocks.{digitAt, stride, runOf, wordAt, allowed, allowedTo}
 
 two : (o a x y : Bool) → ((o && a) && (x && y)) ≡ (o && ((a && x) && y))
 two true true x y = refl
@@ -43,7 +43,7 @@ module _ {columns : List ℕ} {c : Cube} {old new : List ℕ} {i : ℕ} (s : Nar
   own k j = allowed columns k j (digitAt c j)
 
   -- The bits of the words with those of inputs i and j.
-  bits : (j : ℕ) {at also : ℕ} → at ≡ runOf i (digitAt c i) → also ≡ runOf j (digitAt c j)
+  bits : (j : ℕ) {at also : ℕ} → at ≡ runOf (stride columns) i (digitAt c i) → also ≡ runOf (stride columns) j (digitAt c j)
       → ((b : ℕ) → b < length new → getD next b 0 ≡ bitAnd (getD new b 0) (bitAnd (getD columns (at + b) 0) (getD columns (also + b) 0)))
       → (k : ℕ) → k < 64 * length old → inSet next k ≡ ((inSet old k && allowedTo columns k c i) && (own k i && own k j))
   bits j {at} {also} e f h k a =
@@ -52,7 +52,7 @@ module _ {columns : List ℕ} {c : Cube} {old new : List ℕ} {i : ℕ} (s : Nar
       ∙ ap₂ _&&_ (s .is k a) (and-test (wordAt columns i (digitAt c i) (k / 64)) (wordAt columns j (digitAt c j) (k / 64)) (k % 64))
 
   -- Input i and the next one, or input i twice.
-  pub narrowing-step : {j at also : ℕ} (n : ℕ) → j ≡ cond (ltb (i + 1) n) (i + 1) i → at ≡ runOf i (digitAt c i) → also ≡ runOf j (digitAt c j)
+  pub narrowing-step : {j at also : ℕ} (n : ℕ) → j ≡ cond (ltb (i + 1) n) (i + 1) i → at ≡ runOf (stride columns) i (digitAt c i) → also ≡ runOf (stride columns) j (digitAt c j)
       → ((b : ℕ) → b < length new → getD next b 0 ≡ bitAnd (getD new b 0) (bitAnd (getD columns (at + b) 0) (getD columns (also + b) 0))) → Narrowing columns c old next (j + 1)
   narrowing-step {j} n e f g h = go (ltb (i + 1) n) e
     where

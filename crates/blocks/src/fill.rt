@@ -1,31 +1,33 @@
-// The columns of up to 2,048 rows, block by block.
+// The columns of rows, block by block.
 ghost use mathlib.Core.Path.{_≡_};
 ghost use Prim.Native.Nat.{_*_, _≤_, _<_};
 ghost use lib.ListN.{length};
 ghost use Rattle.columns.specs.Relation.{relates};
-ghost use Rattle.blocks.specs.Blocks.{Blocks, BlockEnd, BlockFilled};
+ghost use Rattle.blocks.specs.Blocks.{stride, Blocks, BlockEnd, BlockFilled};
 use crate::word::run_of;
+use crate::word::stride;
 use columns::relation::Relation;
 use columns::relation::allowed_at;
 
 // The words of block b, whose rows are lent.
 fn block_into(rel: Relation, n: usize, rows: &[u64], b: usize, columns: &mut [u64])
-    requires { ⌜ (length (now rows) ≤ 64) × (n ≤ 10) × (b < 32) × (length (now columns) ≡ 960) ⌝ }
+    requires { ⌜ (length (now rows) ≤ 64) × (n ≤ 10) × (b < stride (now columns)) ⌝ }
     ensures { λ _. ⌜ BlockFilled rel n (now (rows .entry)) b (now (columns .entry)) (now (columns .exit)) ⌝ }
 {
+    let words = stride(columns);
     let mut i = 0;
     while i < n {
-        let words = allowed_at(rel, rows, i);
-        columns[run_of(i, 0) + b] = words.zero;
-        columns[run_of(i, 1) + b] = words.one;
-        columns[run_of(i, 2) + b] = words.absent;
+        let allowed = allowed_at(rel, rows, i);
+        columns[run_of(words, i, 0) + b] = allowed.zero;
+        columns[run_of(words, i, 1) + b] = allowed.one;
+        columns[run_of(words, i, 2) + b] = allowed.absent;
         i += 1;
     }
 }
 
 // Where a block that starts at a row ends.
 fn block_end(from: usize, count: usize) -> usize
-    requires { ⌜ (from < count) × (count ≤ 2048) ⌝ }
+    requires { ⌜ from < count ⌝ }
     ensures { λ r. ⌜ BlockEnd from count r ⌝ }
 {
     if count - from < 64 {
@@ -36,7 +38,7 @@ fn block_end(from: usize, count: usize) -> usize
 
 // The columns of all rows.
 pub fn blocks_into(rel: Relation, n: usize, rows: &[u64], columns: &mut [u64])
-    requires { ⌜ (length (now rows) ≤ 2048) × (n ≤ 10) × (length (now columns) ≡ 960) ⌝ }
+    requires { ⌜ (n ≤ 10) × (length (now rows) ≤ 64 * stride (now columns)) ⌝ }
     ensures { λ _. ⌜ Blocks (λ w c. relates rel n c w) n (now (rows .entry)) (now (columns .exit)) ⌝ }
 {
     let mut b = 0;

@@ -1,4 +1,4 @@
-// Sets of up to 2,048 rows as words of 64 bits, and rows tested against a cube block by block.
+// Sets of rows as words of 64 bits, and rows tested against a cube block by block.
 pub mod fill;
 pub mod member;
 pub mod narrow;

@@ -6,8 +6,9 @@ ghost use lib.Bits.{bitAnd};
 ghost use lib.Dec.{ltb};
 ghost use lib.ListN.{length, getD};
 ghost use Rattle.cube.specs.PointSet.{inSet};
-ghost use Rattle.blocks.specs.Blocks.{allowedTo};
+ghost use Rattle.blocks.specs.Blocks.{stride, allowedTo};
 use crate::word::run_of;
+use crate::word::stride;
 use columns::query::digit_at;
 use cube::mask::Cube;
 
@@ -37,14 +38,15 @@ fn partner(i: usize, n: usize) -> usize
 // The rows that allow the digit of each input stay. The words of one input and digit lie side by side, so that the inner loop is two ANDs a
 // word for two inputs; the last of an odd number of inputs is taken twice.
 pub fn narrow(n: usize, columns: &[u64], c: Cube, rows: &mut [u64])
-    requires { ⌜ (n ≤ 10) × (length (now columns) ≡ 960) × (length (now rows) ≤ 32) ⌝ }
+    requires { ⌜ (n ≤ 10) × (length (now rows) ≤ stride (now columns)) ⌝ }
     ensures { λ _. ⌜ ((k : ℕ) → k < 64 * length (now (rows .entry)) → inSet (now (rows .exit)) k ≡ (inSet (now (rows .entry)) k && allowedTo (now (columns .entry)) k c n)) ⌝ }
 {
+    let words = stride(columns);
     let mut i = 0;
     while i < n {
         let j = partner(i, n);
-        let at = run_of(i, digit_at(c, i));
-        let also = run_of(j, digit_at(c, j));
+        let at = run_of(words, i, digit_at(c, i));
+        let also = run_of(words, j, digit_at(c, j));
         narrow_by(columns, at, also, rows);
         i = j + 1;
     }

@@ -3,7 +3,7 @@ ghost use mathlib.Core.Path.{_≡_};
 ghost use Prim.Native.Nat.{ℕ, _≤_, _<_};
 ghost use lib.Bits.{bitAnd, bitXor};
 ghost use lib.ListN.{length, getD};
-ghost use Rattle.blocks.specs.Blocks.{allowedTo};
+ghost use Rattle.blocks.specs.Blocks.{stride, allowedTo};
 ghost use Rattle.blocks.specs.Sets.{Split};
 use crate::narrow::narrow;
 use cube::mask::Cube;
@@ -35,7 +35,7 @@ fn remove(set: &mut [u64], other: &[u64])
 
 // Those of the set that allow the cube's digits, and the set without them.
 pub fn split(n: usize, columns: &[u64], c: Cube, set: &mut [u64], taken: &mut [u64])
-    requires { ⌜ (n ≤ 10) × (length (now columns) ≡ 960) × (length (now set) ≤ 32) × (length (now taken) ≡ length (now set)) ⌝ }
+    requires { ⌜ (n ≤ 10) × (length (now set) ≤ stride (now columns)) × (length (now taken) ≡ length (now set)) ⌝ }
     ensures { λ _. ⌜ Split (λ k. allowedTo (now (columns .entry)) k c n) (now (set .entry)) (now (set .exit)) (now (taken .exit)) ⌝ }
 {
     copy_into(set, taken);

@@ -7,10 +7,11 @@ ghost use lib.ListN.{length, getD};
 ghost use Rattle.hazard.specs.Cube.{bit};
 ghost use Rattle.hazard.specs.Search.{found, first};
 ghost use Rattle.cube.specs.PointSet.{inSet};
+ghost use Rattle.blocks.specs.Sets.{mostWords};
 
 // Word b of the set of the first rows, as many as are counted.
 fn whole_word(count: usize, b: usize) -> u64
-    requires { ⌜ b < 32 ⌝ }
+    requires { ⌜ b < mostWords ⌝ }
     ensures { λ r. ⌜ ((t : ℕ) → t < 64 → eqb (bit r t) 1 ≡ ltb (64 * b + t) count) ⌝ }
 {
     let from = 64 * b;
@@ -26,7 +27,7 @@ fn whole_word(count: usize, b: usize) -> u64
 
 // The set of the first rows.
 pub fn whole_into(count: usize, out: &mut [u64])
-    requires { ⌜ length (now out) ≤ 32 ⌝ }
+    requires { ⌜ length (now out) ≤ mostWords ⌝ }
     ensures { λ _. ⌜ ((k : ℕ) → k < 64 * length (now (out .entry)) → inSet (now (out .exit)) k ≡ ltb k count) ⌝ }
 {
     let mut b = 0;

@@ -11,6 +11,7 @@ use native.Mathlib.Decide.{ℕ-discrete}
 use lib.Dec.{T}
 use lib.ListN.{length, getD, take, set, replicate, length-set, length-take, length-map}
 use lib.Seq.{take-suc-set, getD-set-same, getD-set-other, length-take-le}
+use Rattle.hazard.specs.Limits.{mostRequired}
 use Rattle.hazard.specs.Cube.{inside}
 use Rattle.hazard.specs.Cover.{Network, covered}
 use Rattle.hazard.proofs.Test.{is, isnt, known, or-e}
@@ -26,7 +27,7 @@ use Rattle.choice.proofs.Flags.{flagged-start, taken-is, flag-is}
 pub record Choosing (P : ℕ → Type 0) (n : ℕ) (required firsts products : List ℕ) (flags : List Bool) (m i : ℕ) : Type 0 where
   pub few : m ≤ i
   pub low : i ≤ length required
-  pub many : length required ≤ 2048
+  pub many : length required ≤ mostRequired
   pub whole : length firsts ≡ length required
   pub room : length required ≤ length products
   pub good : (k : ℕ) → k < m → P (getD products k 0)
@@ -36,8 +37,8 @@ pub record Choosing (P : ℕ → Type 0) (n : ℕ) (required firsts products : L
   pub each : (k : ℕ) → k < length required → T (getD flags k false) → firstIn (networkIn n (take m products)) (cubeIn n (getD required k 0)) ≡ some (getD firsts k 0)
   pub covers : (k : ℕ) → k < i → T (covered (networkIn n (take m products)) (cubeIn n (getD required k 0)))
 
-pub choosing-start : (P : ℕ → Type 0) (n : ℕ) (required firsts products : List ℕ) → length required ≤ 2048 → length firsts ≡ length required → length required ≤ length products
-    → Choosing P n required firsts products (replicate 2048 false) 0 0
+pub choosing-start : (P : ℕ → Type 0) (n : ℕ) (required firsts products : List ℕ) → length required ≤ mostRequired → length firsts ≡ length required → length required ≤ length products
+    → Choosing P n required firsts products (replicate mostRequired false) 0 0
 choosing-start P n required firsts products a b c =
     record {
       few = omega arith;
@@ -46,8 +47,8 @@ choosing-start P n required firsts products a b c =
       whole = b;
       room = c;
       good = λ k l. absurd (omega arith);
-      flagged = flagged-start n required 2048;
-      each = λ k l t. absurd (rw (flagged-start n required 2048 k l) at t);
+      flagged = flagged-start n required mostRequired;
+      each = λ k l t. absurd (rw (flagged-start n required mostRequired k l) at t);
       covers = λ k l. absurd (omega arith);
     }
 

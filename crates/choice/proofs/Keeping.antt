@@ -13,6 +13,7 @@ use lib.ListN.{length, getD, take, drop, set, replicate, length-set, length-map}
 use lib.Seq.{take-length, drop-length, drop-cons, drop-set-lt, getD-set-same, getD-set-other}
 use Rattle.hazard.specs.Search.{found, first}
 use Rattle.hazard.specs.Cube.{inside}
+use Rattle.hazard.specs.Limits.{mostRequired}
 use Rattle.hazard.specs.Sets.{Required}
 use Rattle.hazard.specs.Cover.{covered}
 use Rattle.hazard.proofs.Test.{tests, so, so-not, known}
@@ -59,7 +60,7 @@ pub record Keeping (n : ℕ) (required before now : List ℕ) (flags : List Bool
   pub flagged : Flagged n required flags (networkIn n (drop kept now))
 
 module _ {n : ℕ} {required firsts before : List ℕ} (noted : Noted n required firsts before) where
-  pub keeping-start : Keeping n required before before (replicate 2048 false) (length before) (length before)
+  pub keeping-start : Keeping n required before before (replicate mostRequired false) (length before) (length before)
   keeping-start =
       record {
         order = omega arith;
@@ -70,7 +71,7 @@ module _ {n : ℕ} {required firsts before : List ℕ} (noted : Noted n required
         chosen = rw (take-length before, drop-length before) (choice-start (map (requiredIn n) required) (networkIn n before)
             (each-required n required (λ (q : Required). T (covered (networkIn n before) (q .cube))) (λ i l. some-covered (networkIn n before) (cubeIn n (getD required i 0)) (noted .each i l)))
             (omega (arith, noted .few, length-map before (cubeIn n), length-map required (requiredIn n))));
-        flagged = rw (drop-length before) (flagged-start n required 2048);
+        flagged = rw (drop-length before) (flagged-start n required mostRequired);
       }
 
   module _ {now : List ℕ} {flags : List Bool} {kept j : ℕ} (s : Keeping n required before now flags kept (suc j)) where

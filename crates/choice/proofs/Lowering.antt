@@ -7,6 +7,7 @@ use native.Mathlib.Decide.{ℕ-discrete}
 use native.Mathlib.Omega.{arith}
 use lib.ListN.{length, getD, set, length-set, length-map}
 use lib.Seq.{getD-set-same, getD-set-other}
+use Rattle.hazard.specs.Limits.{mostRequired}
 use Rattle.cube.specs.Entry.{cubeIn, networkIn}
 use Rattle.choice.specs.Keep.{Lowest, Noted}
 use Rattle.choice.proofs.Firsts.{first-covered}
@@ -52,8 +53,8 @@ module _ {firsts before lowest : List ℕ} {k : ℕ} (s : Lowering firsts before
 pub lowering-end : {firsts before lowest : List ℕ} → Lowering firsts before lowest 0 → Lowest firsts lowest
 lowering-end s = record { low = λ i l. s .low i (omega arith) l; same = λ i l. s .same i (omega arith) l }
 
--- Each first product is one of at most 2,048.
-pub noted-low : {n : ℕ} {required firsts products : List ℕ} → Noted n required firsts products → (i : ℕ) → i < length firsts → getD firsts i 0 < 2048
+-- Each first product is one of no more than the most required cubes.
+pub noted-low : {n : ℕ} {required firsts products : List ℕ} → Noted n required firsts products → (i : ℕ) → i < length firsts → getD firsts i 0 < mostRequired
 noted-low {n} {required} {firsts} {products} s i l =
     let (a, b, c) = first-covered (networkIn n products) (cubeIn n (getD required i 0)) (s .each i (omega (arith, s .whole))) in
     omega (arith, a, s .few, s .many, length-map products (cubeIn n))

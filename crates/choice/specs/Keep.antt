@@ -6,6 +6,7 @@ use mathlib.Core.Option.{some}
 use Prim.Native.Nat.{ℕ, _≤_, _<_}
 use lib.Dec.{T, eqb}
 use lib.ListN.{length, getD, drop}
+use Rattle.hazard.specs.Limits.{mostRequired}
 use Rattle.hazard.specs.Sets.{Required}
 use Rattle.hazard.specs.Cover.{covered, Irredundant}
 use Rattle.cube.specs.Entry.{requiredIn, cubeIn, networkIn}
@@ -24,7 +25,7 @@ pub record Lowest (firsts lowest : List ℕ) : Type 0 where
 pub record Noted (n : ℕ) (required firsts products : List ℕ) : Type 0 where
   pub each : (i : ℕ) → i < length required → firstIn (networkIn n products) (cubeIn n (getD required i 0)) ≡ some (getD firsts i 0)
   pub whole : length firsts ≡ length required
-  pub many : length required ≤ 2048
+  pub many : length required ≤ mostRequired
   pub few : length products ≤ length required
 
 -- Of the products, those from place r on are kept: they cover every required cube, and each has one of its own.

@@ -4,6 +4,7 @@ ghost use Prim.Native.Nat.{_*_, _≤_};
 ghost use lib.ListN.{length};
 ghost use Rattle.hazard.specs.Cover.{covered};
 ghost use Rattle.cube.specs.Entry.{cubeIn, networkIn};
+ghost use Rattle.blocks.specs.Sets.{Fits};
 ghost use Rattle.choice.specs.Rows.{Containing};
 use blocks::narrow::narrow;
 use blocks::whole::has_row;
@@ -12,7 +13,7 @@ use cube::entry::cube_in;
 
 // Some product contains the required cube. The products are the rows of the columns; `rows` is room for a set of them.
 pub fn covers(n: usize, products: &[u64], columns: &[u64], rows: &mut [u64], r: u64) -> bool
-    requires { ⌜ (n ≤ 10) × (length (now rows) ≤ 32) × (length (now products) ≤ 64 * length (now rows)) ⌝ }
+    requires { ⌜ (n ≤ 10) × Fits (now columns) (now rows) × (length (now products) ≤ 64 * length (now rows)) ⌝ }
     requires { ⌜ Containing n (now products) (now columns) ⌝ }
     ensures { λ b. ⌜ b ≡ covered (networkIn n (now (products .entry))) (cubeIn n r) ⌝ }
 {

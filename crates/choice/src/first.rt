@@ -5,12 +5,13 @@ ghost use Prim.Native.Nat.{ℕ, _≤_, _<_};
 ghost use lib.Dec.{T};
 ghost use lib.ListN.{length, getD};
 ghost use Rattle.cube.specs.PointSet.{inSet};
+ghost use Rattle.blocks.specs.Sets.{mostWords};
 ghost use Rattle.choice.specs.Rows.{inWord};
 use blocks::member::without_lowest;
 
 // Product j is noted for the rows of word b of a set.
 fn note_word(firsts: &mut [u16], b: usize, word: u64, j: u16)
-    requires { ⌜ b < 32 ⌝ }
+    requires { ⌜ b < mostWords ⌝ }
     requires { ⌜ ((i : ℕ) → T (inWord b word i) → i < length (now firsts)) ⌝ }
     ensures { λ _. ⌜ ((i : ℕ) → getD (now (firsts .exit)) i 0 ≡ cond (inWord b word i) j (getD (now (firsts .entry)) i 0)) ⌝ }
 {
@@ -23,7 +24,7 @@ fn note_word(firsts: &mut [u16], b: usize, word: u64, j: u16)
 
 // Product j is noted for the rows of a set.
 pub fn note(firsts: &mut [u16], set: &[u64], j: u16)
-    requires { ⌜ length (now set) ≤ 32 ⌝ }
+    requires { ⌜ length (now set) ≤ mostWords ⌝ }
     requires { ⌜ ((i : ℕ) → T (inSet (now set) i) → i < length (now firsts)) ⌝ }
     ensures { λ _. ⌜ ((i : ℕ) → getD (now (firsts .exit)) i 0 ≡ cond (inSet (now (set .entry)) i) j (getD (now (firsts .entry)) i 0)) ⌝ }
 {

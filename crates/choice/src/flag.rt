@@ -6,6 +6,7 @@ ghost use lib.Dec.{T};
 ghost use lib.ListN.{length, getD};
 ghost use Rattle.cube.specs.PointSet.{inSet};
 ghost use Rattle.blocks.specs.Blocks.{allowedTo};
+ghost use Rattle.blocks.specs.Sets.{mostWords, Fits};
 ghost use Rattle.choice.specs.Rows.{inWord};
 ghost use Rattle.choice.specs.Flag.{Flagging};
 use blocks::member::without_lowest;
@@ -14,7 +15,7 @@ use cube::mask::Cube;
 
 // The rows of word b of a set are flagged.
 fn flag_word(flags: &mut [bool], b: usize, word: u64)
-    requires { ⌜ b < 32 ⌝ }
+    requires { ⌜ b < mostWords ⌝ }
     requires { ⌜ ((i : ℕ) → T (inWord b word i) → i < length (now flags)) ⌝ }
     ensures { λ _. ⌜ ((i : ℕ) → getD (now (flags .exit)) i false ≡ cond (inWord b word i) true (getD (now (flags .entry)) i false)) ⌝ }
 {
@@ -27,7 +28,7 @@ fn flag_word(flags: &mut [bool], b: usize, word: u64)
 
 // The rows of a set are flagged.
 fn flag(flags: &mut [bool], set: &[u64])
-    requires { ⌜ length (now set) ≤ 32 ⌝ }
+    requires { ⌜ length (now set) ≤ mostWords ⌝ }
     requires { ⌜ ((i : ℕ) → T (inSet (now set) i) → i < length (now flags)) ⌝ }
     ensures { λ _. ⌜ ((i : ℕ) → getD (now (flags .exit)) i false ≡ cond (inSet (now (set .entry)) i) true (getD (now (flags .entry)) i false)) ⌝ }
 {
@@ -48,7 +49,7 @@ pub fn flag_product(
     taken: &mut [u64],
     flags: &mut [bool],
 )
-    requires { ⌜ (n ≤ 10) × (length (now columns) ≡ 960) × (length (now uncovered) ≤ 32) × (length (now taken) ≡ length (now uncovered)) ⌝ }
+    requires { ⌜ (n ≤ 10) × Fits (now columns) (now uncovered) × (length (now taken) ≡ length (now uncovered)) ⌝ }
     requires { ⌜ ((i : ℕ) → T (inSet (now uncovered) i) → i < length (now flags)) ⌝ }
     ensures { λ _. ⌜ Flagging (λ i. allowedTo (now (columns .entry)) i c n) (now (uncovered .entry)) (now (uncovered .exit)) (now (taken .exit)) (now (flags .entry)) (now (flags .exit)) ⌝ }
 {

@@ -2,12 +2,15 @@
 ghost use mathlib.Core.Path.{_≡_};
 ghost use Prim.Native.Nat.{ℕ, _*_, _≤_, _<_};
 ghost use lib.ListN.{length, getD};
+ghost use Rattle.hazard.specs.Limits.{mostRequired};
 ghost use Rattle.hazard.specs.Search.{found, first};
+ghost use Rattle.blocks.specs.Sets.{Fits};
 ghost use Rattle.choice.specs.Keep.{neededIn, Lowest, Noted, Kept};
 ghost use Rattle.choice.specs.Rows.{Inside};
 use crate::flag::flag_product;
 use blocks::whole::whole_into;
 use cube::entry::cube_in;
+use hazard::limits::MOST_REQUIRED;
 
 // Required cube i has product j for its first, and its flag is not set: it lies in no product kept so far.
 fn needed_at(firsts: &[u16], flags: &[bool], j: u16, i: usize) -> bool
@@ -51,7 +54,7 @@ fn needed(firsts: &[u16], flags: &[bool], j: u16, lowest: u16) -> bool
 
 // For each product the lowest required cube that has it for its first.
 fn lowest_into(firsts: &[u16], lowest: &mut [u16])
-    requires { ⌜ (length (now firsts) ≤ 2048) × (length (now lowest) ≡ 2048) × ((i : ℕ) → i < length (now firsts) → getD (now firsts) i 0 < 2048) ⌝ }
+    requires { ⌜ (length (now firsts) ≤ mostRequired) × (length (now lowest) ≡ mostRequired) × ((i : ℕ) → i < length (now firsts) → getD (now firsts) i 0 < mostRequired) ⌝ }
     ensures { λ _. ⌜ Lowest (now (firsts .entry)) (now (lowest .exit)) ⌝ }
 {
     let mut i = firsts.len();
@@ -74,11 +77,11 @@ pub fn irredundant_from(
     taken: &mut [u64],
 ) -> usize
     requires { ⌜ (n ≤ 10) × Noted n (now required) (now firsts) (now products) × Inside n (now required) (now columns) ⌝ }
-    requires { ⌜ (length (now uncovered) ≤ 32) × (length (now required) ≤ 64 * length (now uncovered)) × (length (now taken) ≡ length (now uncovered)) ⌝ }
+    requires { ⌜ Fits (now columns) (now uncovered) × (length (now required) ≤ 64 * length (now uncovered)) × (length (now taken) ≡ length (now uncovered)) ⌝ }
     ensures { λ r. ⌜ Kept n (now (required .entry)) (now (products .entry)) (now (products .exit)) r ⌝ }
 {
-    let mut flags = [false; 2048];
-    let mut lowest = [0u16; 2048];
+    let mut flags = [false; MOST_REQUIRED];
+    let mut lowest = [0u16; MOST_REQUIRED];
     lowest_into(firsts, &mut lowest);
     whole_into(required.len(), uncovered);
     let mut kept = products.len();

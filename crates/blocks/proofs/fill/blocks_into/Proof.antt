@@ -1,21 +1,22 @@
-use mathlib.Core.Path.{sym, _∙_}
+use mathlib.Core.Path.{_≡_, refl, _∙_}
 use Prim.Native.Nat.{_≤_}
 use Prim.Native.Nat.{_-_, _*_}
 use lib.ListN.{length}
 use native.Mathlib.Omega.{arith}
+use Rattle.blocks.specs.Blocks.{stride}
 use Rattle.blocks.proofs.Storing.{Filled, filled-start, filled-step, filled-end}
 use borrow.Author.Needs.{needs}
 use Rattle.blocks.proofs.fill.blocks_into.Statement.{statement}
 use Rattle.blocks.proofs.fill.blocks_into.Tie as tie
 
 abbrev Inv-loop : tie.InvT-loop
-Inv-loop rel n rows columns₀ b₀ columns b = Filled rel n rows columns b × (b ≤ 32)
+Inv-loop rel n rows columns₀ b₀ columns b = Filled rel n rows columns b × (length columns ≡ length columns₀) × (b ≤ stride columns₀)
 
 abbrev μ-loop : tie.MeasureT-loop
 μ-loop rel n rows columns₀ b₀ columns b = length rows - 64 * b
 
 loop-holds : tie.Need-loop-holds Inv-loop μ-loop
-loop-holds c = (filled-start _ _ _ _ (c .before .before .pre .2), omega arith)
+loop-holds c = (filled-start _ _ _ _, refl, omega arith)
 
 mul-loop : tie.Need-mul-loop Inv-loop μ-loop
 mul-loop c = search needs
@@ -39,7 +40,10 @@ part-block-into-end : tie.Need-part-block-into-end Inv-loop μ-loop
 part-block-into-end c = search needs
 
 block-into-requires : tie.Need-block-into-requires Inv-loop μ-loop
-block-into-requires c κs = search needs
+block-into-requires c κs =
+    let s = c .before .before .before .before .before .before .before in
+    let l = c .before .before .before .before .loop in
+    (search needs, s .pre .0, omega (arith, l .inv .1, s .pre .1, c .before .before .before .loop-test .taken))
 
 add-b : tie.Need-add-b Inv-loop μ-loop
 add-b c = search needs
@@ -52,10 +56,10 @@ loop-again c =
     let s = c .before .before .before .before .before .before .before .before .before .before in
     let l = c .before .before .before .before .before .before .before .loop in
     let f = c .before .before .block-into in
-    (filled-step (l .inv .0) (c .before .before .before .before .before .before .loop-test .taken) (s .pre .0) (c .before .before .before .before .before .block-end .ensures) (f .last .1 .1 .1 .1 .0) (f .ensures), omega (arith, s .pre .0, c .before .before .before .before .before .before .loop-test .taken))
+    (filled-step (l .inv .0) (c .before .before .before .before .before .before .loop-test .taken) (omega (arith, l .inv .1, s .pre .1, c .before .before .before .before .before .before .loop-test .taken)) (c .before .before .before .before .before .block-end .ensures) (f .last .1 .1 .1 .1 .0) (f .ensures), f .kept .1 .1 .1 .1 .0 ∙ l .inv .1, omega (arith, s .pre .1, c .before .before .before .before .before .before .loop-test .taken))
 
 same-length : tie.Need-same-length Inv-loop μ-loop
-same-length c = c .before .loop .inv .0 .long ∙ sym (c .before .before .before .before .pre .2)
+same-length c = c .before .loop .inv .1
 
 returns : tie.Need-returns Inv-loop μ-loop
 returns c = filled-end (c .before .loop .inv .0) (c .loop-test .left)

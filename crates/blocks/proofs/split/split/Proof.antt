@@ -31,7 +31,7 @@ returns c =
     let s = c .before .before .before .before .before .before .before .before .before .before .before .before .before .before .before .before .before in
     let n = c .before .before .before .before .before .before .before .narrow in
     let k = c .before .before .before .before .before .before .before .before .before .before .before .copy-into in
-    split-is (λ x. allowedTo (s .args .columns .now) x (s .args .c) (s .args .n)) (s .args .set .now) (k .last .1 .0) (n .last .1 .1 .1 .0) (c .before .before .remove .last .0) (k .kept .1 .0 ∙ s .pre .3) (n .kept .1 .1 .1 .0) (k .ensures) (n .ensures) (c .before .before .remove .ensures)
+    split-is (λ x. allowedTo (s .args .columns .now) x (s .args .c) (s .args .n)) (s .args .set .now) (k .last .1 .0) (n .last .1 .1 .1 .0) (c .before .before .remove .last .0) (k .kept .1 .0 ∙ s .pre .2) (n .kept .1 .1 .1 .0) (k .ensures) (n .ensures) (c .before .before .remove .ensures)
 
 pub split-spec : {M : Type 1} → statement M
 split-spec =

@@ -11,7 +11,7 @@ flag-requires : tie.Need-flag-requires
 flag-requires c κs =
     let s = c .before .before .before .before .before .before .before .before .before .before .before .before .before in
     let z = c .before .before .before .before .before .before .split in
-    (omega (arith, s .pre .0 .2, s .pre .0 .3, z .kept .1 .1 .1 .1 .0), λ i t. s .pre .1 i (taken-low (z .ensures) i t))
+    (omega (arith, s .pre .0 .1, s .pre .0 .2, z .kept .1 .1 .1 .1 .0), λ i t. s .pre .1 i (taken-low (z .ensures) i t))
 
 same-length : tie.Need-same-length
 same-length c = search needs

@@ -3,6 +3,7 @@ use mathlib.Core.Bool.{false}
 use Prim.Native.Nat.{_-_, _*_, _≤_}
 use native.Mathlib.Omega.{arith}
 use lib.ListN.{length, getD, length-replicate}
+use Rattle.hazard.specs.Limits.{mostRequired}
 use Rattle.cube.specs.Mask.{cubeOf}
 use Rattle.cube.specs.Entry.{cubeIn}
 use Rattle.choice.specs.Flag.{Unflagged}
@@ -14,7 +15,7 @@ use Rattle.choice.proofs.keep.irredundant_from.Statement.{statement}
 use Rattle.choice.proofs.keep.irredundant_from.Tie as tie
 
 abbrev Inv-loop : tie.InvT-loop
-Inv-loop n required columns firsts products₀ uncovered₀ taken₀ flags₀ lowest kept₀ j₀ products uncovered taken flags kept j = Keeping n required products₀ products flags kept j × Unflagged (length required) flags uncovered × (length uncovered ≡ length uncovered₀) × (length taken ≡ length taken₀) × (length flags ≡ 2048)
+Inv-loop n required columns firsts products₀ uncovered₀ taken₀ flags₀ lowest kept₀ j₀ products uncovered taken flags kept j = Keeping n required products₀ products flags kept j × Unflagged (length required) flags uncovered × (length uncovered ≡ length uncovered₀) × (length taken ≡ length taken₀) × (length flags ≡ mostRequired)
 
 abbrev μ-loop : tie.MeasureT-loop
 μ-loop n required columns firsts products₀ uncovered₀ taken₀ flags₀ lowest kept₀ j₀ products uncovered taken flags kept j = j
@@ -33,10 +34,10 @@ loop-holds c =
     let s = c .before .before .before .before .before .before .before .before .before .before .before .before .before in
     let w = c .before .before .whole-into in (
       keeping-start (s .pre .0 .1),
-      unflagged-start 2048 (length (s .args .required .now)) (w .last .1 .0) (omega (arith, s .pre .1 .1, w .kept .1 .0)) (λ k l. w .ensures k (omega (arith, w .kept .1 .0))),
+      unflagged-start mostRequired (length (s .args .required .now)) (w .last .1 .0) (omega (arith, s .pre .1 .1, w .kept .1 .0)) (λ k l. w .ensures k (omega (arith, w .kept .1 .0))),
       refl,
       refl,
-      length-replicate 2048 false,
+      length-replicate mostRequired false,
     )
 
 sub-j : tie.Need-sub-j Inv-loop μ-loop
@@ -83,7 +84,7 @@ flag-product-requires c κs =
     let s = c .before .before .before .before .before .before .before .before .before .before .before .before .before .before .before .before .before .before .before .before .before .before .before in
     let w = c .before .before .before .before .before .before .before .before .before .before .before .before .whole-into in
     let l = c .before .before .before .before .before .before .before .before .before .loop in (
-      (s .pre .0 .0, s .pre .0 .2 .long, omega (arith, l .inv .2, w .kept .1 .0, s .pre .1 .0), l .inv .3 ∙ s .pre .1 .2 ∙ sym (w .kept .1 .0) ∙ sym (l .inv .2)),
+      (s .pre .0 .0, omega (arith, l .inv .2, w .kept .1 .0, s .pre .1 .0), l .inv .3 ∙ s .pre .1 .2 ∙ sym (w .kept .1 .0) ∙ sym (l .inv .2)),
       λ i t. omega (arith, unflagged-low (length (s .args .required .now)) (l .flags) (l .uncovered) (l .inv .1) i t, s .pre .0 .1 .many, l .inv .4),
     )
 

@@ -2,6 +2,7 @@ use mathlib.Core.Path.{_≡_}
 use Prim.Native.Nat.{_-_, _<_}
 use native.Mathlib.Omega.{arith}
 use lib.ListN.{getD}
+use Rattle.hazard.specs.Limits.{mostRequired}
 use Rattle.choice.proofs.Lowering.{Lowering, lowering-start, lowering-step, lowering-end}
 use borrow.Author.Needs.{needs}
 use Rattle.choice.proofs.keep.lowest_into.Statement.{statement}
@@ -29,7 +30,7 @@ shared-slice-read-lowest : tie.Need-shared-slice-read-lowest Inv-loop μ-loop
 shared-slice-read-lowest c = omega (arith, c .before .before .loop .inv .within, c .before .loop-test .taken)
 
 -- The first product that is read.
-low : (c : tie.After-shared-slice-known Inv-loop μ-loop) → getD (c .before .before .before .args .firsts .now) (c .before .before .loop .i - 1) 0 < 2048
+low : (c : tie.After-shared-slice-known Inv-loop μ-loop) → getD (c .before .before .before .args .firsts .now) (c .before .before .loop .i - 1) 0 < mostRequired
 low c = c .before .before .before .pre .2 (c .before .before .loop .i - 1) (omega (arith, c .before .before .loop .inv .within, c .before .loop-test .taken))
 
 cast-lowest-2 : tie.Need-cast-lowest-2 Inv-loop μ-loop
