@@ -7,8 +7,8 @@ ghost use Rattle.hazard.specs.Sets.{required};
 ghost use Rattle.points.specs.Plane.{Plane};
 ghost use Rattle.selection.specs.Answer.{minimisedOf};
 use crate::network::network_into;
-use checks::many::Counted;
 use checks::check::check;
+use checks::many::Counted;
 use refusal::refusal::refuse;
 use selection::minimised::Minimised;
 
