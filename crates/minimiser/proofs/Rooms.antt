@@ -5,6 +5,7 @@ use Prim.Native.Nat.{ℕ, _+_, _-_, _*_, _/_, _≤_}
 use native.Mathlib.Omega.{arith}
 use lib.ListN.{length, take, replicate, length-replicate}
 use lib.Seq.{length-take-le}
+use Rattle.blocks.specs.Sets.{mostWords, Fits}
 use Rattle.minimiser.specs.Room.{Room, Columns}
 
 -- Arrays of the same size are room for as many.
@@ -32,12 +33,19 @@ module _ {k : ℕ} {required firsts products : List ℕ} (s : Room k required fi
 pub sets-low : (r : ℕ) {k : ℕ} {columns uncovered taken : List ℕ} → Columns k columns uncovered taken → r ≡ k → (r + 63) / 64 ≤ length uncovered
 sets-low r s e = omega (arith, e, s .enough)
 
-pub sets-part : (r m : ℕ) {k : ℕ} {columns uncovered taken : List ℕ} → Columns k columns uncovered taken → r ≡ k → m ≡ k
-    → (length (take ((r + 63) / 64 - 0) uncovered) ≤ 32) × (m ≤ 64 * length (take ((r + 63) / 64 - 0) uncovered)) × (length (take ((r + 63) / 64 - 0) taken) ≡ length (take ((r + 63) / 64 - 0) uncovered))
-sets-part r m {k} {columns} {uncovered} {taken} s e l =
+pub sets-part : (r m : ℕ) (filled : List ℕ) {k : ℕ} {columns uncovered taken : List ℕ} → Columns k columns uncovered taken → length filled ≡ length columns → r ≡ k → m ≡ k
+    → Fits filled (take ((r + 63) / 64 - 0) uncovered) × (m ≤ 64 * length (take ((r + 63) / 64 - 0) uncovered)) × (length (take ((r + 63) / 64 - 0) taken) ≡ length (take ((r + 63) / 64 - 0) uncovered))
+sets-part r m filled {k} {columns} {uncovered} {taken} s f e l =
     let a : length (take ((r + 63) / 64 - 0) uncovered) ≡ (r + 63) / 64 - 0 = length-take-le ((r + 63) / 64 - 0) uncovered (omega (arith, e, s .enough)) in
     let b : length (take ((r + 63) / 64 - 0) taken) ≡ (r + 63) / 64 - 0 = length-take-le ((r + 63) / 64 - 0) taken (omega (arith, e, s .enough, s .same)) in
-    (omega (arith, a, e, s .enough, s .few), omega (arith, a, e, l), b ∙ sym a)
+    ((omega (arith, a, e, f, s .enough, s .fits), omega (arith, a, e, s .enough, s .fits)), omega (arith, a, e, l), b ∙ sym a)
 
-pub columns-of : (b : ℕ) {k : ℕ} → b ≤ 32 → k ≤ 64 * b → Columns k (replicate 960 0) (replicate b 0) (replicate b 0)
-columns-of b l m = record { whole = length-replicate {A = ℕ} 960 0; few = rw (length-replicate {A = ℕ} b 0) l; enough = rw (length-replicate {A = ℕ} b 0) m; same = refl }
+-- Room for the columns in b blocks, and sets of b words.
+pub columns-of : (b : ℕ) {k : ℕ} → b ≤ mostWords → k ≤ 64 * b → Columns k (replicate (30 * b) 0) (replicate b 0) (replicate b 0)
+columns-of b l m =
+    let words = length-replicate {A = ℕ} b 0 in
+    record {
+      fits = (omega (arith, words, length-replicate {A = ℕ} (30 * b) 0), omega (arith, words, l));
+      enough = omega (arith, words, m);
+      same = refl;
+    }

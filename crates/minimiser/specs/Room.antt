@@ -3,6 +3,7 @@ use mathlib.Core.Path.{_≡_}
 use mathlib.Core.List.{List}
 use Prim.Native.Nat.{ℕ, _*_, _≤_}
 use lib.ListN.{length}
+use Rattle.blocks.specs.Sets.{Fits}
 
 -- Room for k required cubes, for the first product of each, and for as many products.
 pub record Room (k : ℕ) (required firsts products : List ℕ) : Type 0 where
@@ -12,7 +13,6 @@ pub record Room (k : ℕ) (required firsts products : List ℕ) : Type 0 where
 
 -- Room for the columns of k required cubes, and for two sets of them.
 pub record Columns (k : ℕ) (columns uncovered taken : List ℕ) : Type 0 where
-  pub whole : length columns ≡ 960
-  pub few : length uncovered ≤ 32
+  pub fits : Fits columns uncovered
   pub enough : k ≤ 64 * length uncovered
   pub same : length taken ≡ length uncovered

@@ -2,6 +2,7 @@
 ghost use mathlib.Core.Path.{_≡_};
 ghost use Prim.Native.Nat.{_*_, _≤_};
 ghost use lib.ListN.{length};
+ghost use Rattle.hazard.specs.Limits.{mostRequired};
 ghost use Rattle.hazard.specs.Sets as sets;
 ghost use Rattle.hazard.specs.Transition as transition;
 ghost use Rattle.points.specs.Plane.{Plane};
@@ -10,6 +11,7 @@ ghost use Rattle.selection.specs.Answer.{minimisedOf, Answered};
 ghost use Rattle.minimiser.specs.Room.{Room, Columns};
 use blocks::fill::blocks_into;
 use columns::relation::Relation;
+use hazard::limits::MOST_REQUIRED;
 use legality::meeting::columns_into;
 use selection::minimised::Minimised;
 use selection::select::select;
@@ -32,7 +34,7 @@ fn cover_with(
     products: &mut [u64],
     cover: &mut [u8],
 ) -> Minimised
-    requires { ⌜ Ready n (now table) (now transitions) × (length (sets.required n (now table) (now transitions)) ≤ 2048) × (length (sets.required n (now table) (now transitions)) * n ≤ length (now cover)) ⌝ }
+    requires { ⌜ Ready n (now table) (now transitions) × (length (sets.required n (now table) (now transitions)) ≤ mostRequired) × (length (sets.required n (now table) (now transitions)) * n ≤ length (now cover)) ⌝ }
     requires { ⌜ Plane (now table) 0 (now off) × Plane (now table) 1 (now ones) × (length (now privileged) ≡ 64) × (length (now legal) ≡ 60) × Room (length (sets.required n (now table) (now transitions))) (now required) (now firsts) (now products) × Columns (length (sets.required n (now table) (now transitions))) (now columns) (now uncovered) (now taken) ⌝ }
     ensures { λ r. ⌜ Answered n (transition.off (now (table .entry))) (sets.privileged n (now (table .entry)) (now (transitions .entry))) (sets.required n (now (table .entry)) (now (transitions .entry))) (now (cover .entry)) (now (cover .exit)) (minimisedOf r) ⌝ }
 {
@@ -73,7 +75,7 @@ fn cover_few(
     let mut privileged = [0u64; 64];
     let mut legal = [0u64; 60];
     let mut required = [0u64; 64];
-    let mut columns = [0u64; 960];
+    let mut columns = [0u64; 30];
     let mut uncovered = [0u64; 1];
     let mut taken = [0u64; 1];
     let mut firsts = [0u16; 64];
@@ -96,7 +98,7 @@ fn cover_few(
     )
 }
 
-// The network of at most 2,048 required cubes, in arrays of that size.
+// The network of as many required cubes as there can be, in arrays of that size.
 fn cover_many(
     n: usize,
     table: &[u8],
@@ -105,18 +107,18 @@ fn cover_many(
     ones: &[u64],
     cover: &mut [u8],
 ) -> Minimised
-    requires { ⌜ Ready n (now table) (now transitions) × (length (sets.required n (now table) (now transitions)) ≤ 2048) × (length (sets.required n (now table) (now transitions)) * n ≤ length (now cover)) ⌝ }
+    requires { ⌜ Ready n (now table) (now transitions) × (length (sets.required n (now table) (now transitions)) ≤ mostRequired) × (length (sets.required n (now table) (now transitions)) * n ≤ length (now cover)) ⌝ }
     requires { ⌜ Plane (now table) 0 (now off) × Plane (now table) 1 (now ones) ⌝ }
     ensures { λ r. ⌜ Answered n (transition.off (now (table .entry))) (sets.privileged n (now (table .entry)) (now (transitions .entry))) (sets.required n (now (table .entry)) (now (transitions .entry))) (now (cover .entry)) (now (cover .exit)) (minimisedOf r) ⌝ }
 {
     let mut privileged = [0u64; 64];
     let mut legal = [0u64; 60];
-    let mut required = [0u64; 2048];
-    let mut columns = [0u64; 960];
-    let mut uncovered = [0u64; 32];
-    let mut taken = [0u64; 32];
-    let mut firsts = [0u16; 2048];
-    let mut products = [0u64; 2048];
+    let mut required = [0u64; MOST_REQUIRED];
+    let mut columns = [0u64; 30 * ((MOST_REQUIRED + 63) / 64)];
+    let mut uncovered = [0u64; (MOST_REQUIRED + 63) / 64];
+    let mut taken = [0u64; (MOST_REQUIRED + 63) / 64];
+    let mut firsts = [0u16; MOST_REQUIRED];
+    let mut products = [0u64; MOST_REQUIRED];
     cover_with(
         n,
         table,
@@ -146,7 +148,7 @@ pub fn network_into(
     count: usize,
     cover: &mut [u8],
 ) -> Minimised
-    requires { ⌜ Ready n (now table) (now transitions) × (length (sets.required n (now table) (now transitions)) ≤ 2048) × (length (sets.required n (now table) (now transitions)) * n ≤ length (now cover)) ⌝ }
+    requires { ⌜ Ready n (now table) (now transitions) × (length (sets.required n (now table) (now transitions)) ≤ mostRequired) × (length (sets.required n (now table) (now transitions)) * n ≤ length (now cover)) ⌝ }
     requires { ⌜ Plane (now table) 0 (now off) × Plane (now table) 1 (now ones) × (count ≡ length (sets.required n (now table) (now transitions))) ⌝ }
     ensures { λ r. ⌜ Answered n (transition.off (now (table .entry))) (sets.privileged n (now (table .entry)) (now (transitions .entry))) (sets.required n (now (table .entry)) (now (transitions .entry))) (now (cover .entry)) (now (cover .exit)) (minimisedOf r) ⌝ }
 {

@@ -2,9 +2,11 @@
 ghost use mathlib.Core.Path.{_≡_};
 ghost use Prim.Native.Nat.{ℕ, _*_, _≤_, _<_};
 ghost use lib.ListN.{length, getD};
+ghost use Rattle.hazard.specs.Limits.{mostRequired};
 ghost use Rattle.cube.specs.Entry.{CleanWord};
 ghost use Rattle.points.specs.Ready.{Ready};
 ghost use Rattle.legality.specs.Columns.{Columns};
+ghost use Rattle.blocks.specs.Sets.{Fits};
 ghost use Rattle.choice.specs.Rows.{Inside};
 ghost use Rattle.selection.specs.Choose.{Choice};
 use crate::minimised::Minimised;
@@ -14,6 +16,7 @@ use blocks::whole::whole_into;
 use choice::first::note;
 use choice::flag::flag_product;
 use cube::entry::pack;
+use hazard::limits::MOST_REQUIRED;
 
 // For each required cube whose flag is not set, the product for it is chosen, and those in it are flagged. One that lies in a product
 // cannot block, so the first that blocks is found on the way. `columns` has the required cubes for its rows; `uncovered` is the set of
@@ -30,12 +33,12 @@ pub fn choose(
     firsts: &mut [u16],
     products: &mut [u64],
 ) -> Minimised
-    requires { ⌜ Ready n (now off) × Columns n (now privileged) (now legal) × (length (now required) ≤ 2048) × (length (now firsts) ≡ length (now required)) × (length (now required) ≤ length (now products)) ⌝ }
-    requires { ⌜ Inside n (now required) (now columns) × (length (now uncovered) ≤ 32) × (length (now required) ≤ 64 * length (now uncovered)) × (length (now taken) ≡ length (now uncovered)) ⌝ }
+    requires { ⌜ Ready n (now off) × Columns n (now privileged) (now legal) × (length (now required) ≤ mostRequired) × (length (now firsts) ≡ length (now required)) × (length (now required) ≤ length (now products)) ⌝ }
+    requires { ⌜ Inside n (now required) (now columns) × Fits (now columns) (now uncovered) × (length (now required) ≤ 64 * length (now uncovered)) × (length (now taken) ≡ length (now uncovered)) ⌝ }
     requires { ⌜ ((k : ℕ) → CleanWord n (getD (now required) k 0)) ⌝ }
     ensures { λ r. ⌜ Choice n (now (off .entry)) (now (privileged .entry)) (now (required .entry)) (now (firsts .exit)) (now (products .exit)) r ⌝ }
 {
-    let mut flags = [false; 2048];
+    let mut flags = [false; MOST_REQUIRED];
     whole_into(required.len(), uncovered);
     let mut m = 0;
     let mut i = 0;

@@ -10,6 +10,7 @@ ghost use Rattle.cube.specs.Entry.{privilegedIn, CleanWord};
 ghost use Rattle.cube.specs.PointSet.{inSet};
 ghost use Rattle.points.specs.Ready.{Ready};
 ghost use Rattle.legality.specs.Columns.{Columns};
+ghost use Rattle.blocks.specs.Sets.{Fits};
 ghost use Rattle.selection.specs.Product.{Over, PrimeOver, MadeFor};
 use crate::near::near;
 use blocks::member::without_lowest;
@@ -62,7 +63,7 @@ fn widened(
     c: Cube,
 ) -> Cube
     requires { ⌜ Ready n (now off) × Columns n (now privileged) (now legal) ⌝ }
-    requires { ⌜ (length (now columns) ≡ 960) × (length (now uncovered) ≤ 32) × (i < 64 * length (now uncovered)) ⌝ }
+    requires { ⌜ Fits (now columns) (now uncovered) × (i < 64 * length (now uncovered)) ⌝ }
     requires { ⌜ T (dhfImplicant n (inSet (now off)) (map (privilegedIn n) (now privileged)) (cubeOf n c)) × Clean n c ⌝ }
     ensures { λ r. ⌜ PrimeOver n (now (off .entry)) (now (privileged .entry)) (cubeOf n c) r ⌝ }
 {
@@ -95,7 +96,7 @@ pub fn product_for(
     i: usize,
 ) -> Made
     requires { ⌜ Ready n (now off) × Columns n (now privileged) (now legal) × (i < length (now required)) ⌝ }
-    requires { ⌜ (length (now columns) ≡ 960) × (length (now uncovered) ≤ 32) × (i < 64 * length (now uncovered)) ⌝ }
+    requires { ⌜ Fits (now columns) (now uncovered) × (i < 64 * length (now uncovered)) ⌝ }
     requires { ⌜ ((k : ℕ) → CleanWord n (getD (now required) k 0)) ⌝ }
     ensures { λ r. ⌜ MadeFor n (now (off .entry)) (now (privileged .entry)) (getD (now (required .entry)) i 0) r ⌝ }
 {

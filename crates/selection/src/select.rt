@@ -3,10 +3,12 @@ ghost use mathlib.Core.Path.{_≡_};
 ghost use mathlib.Core.List.{map};
 ghost use Prim.Native.Nat.{ℕ, _*_, _≤_};
 ghost use lib.ListN.{length, getD};
+ghost use Rattle.hazard.specs.Limits.{mostRequired};
 ghost use Rattle.cube.specs.Entry.{requiredIn, privilegedIn, CleanWord};
 ghost use Rattle.cube.specs.PointSet.{inSet};
 ghost use Rattle.points.specs.Ready.{Ready};
 ghost use Rattle.legality.specs.Columns.{Columns};
+ghost use Rattle.blocks.specs.Sets.{Fits};
 ghost use Rattle.choice.specs.Rows.{Inside};
 ghost use Rattle.selection.specs.Answer.{minimisedOf, Answered};
 use crate::choose::choose;
@@ -28,8 +30,8 @@ pub fn select(
     products: &mut [u64],
     cover: &mut [u8],
 ) -> Minimised
-    requires { ⌜ Ready n (now off) × Columns n (now privileged) (now legal) × (length (now required) ≤ 2048) × (length (now firsts) ≡ length (now required)) × (length (now required) ≤ length (now products)) × (length (now required) * n ≤ length (now cover)) ⌝ }
-    requires { ⌜ Inside n (now required) (now columns) × (length (now uncovered) ≤ 32) × (length (now required) ≤ 64 * length (now uncovered)) × (length (now taken) ≡ length (now uncovered)) ⌝ }
+    requires { ⌜ Ready n (now off) × Columns n (now privileged) (now legal) × (length (now required) ≤ mostRequired) × (length (now firsts) ≡ length (now required)) × (length (now required) ≤ length (now products)) × (length (now required) * n ≤ length (now cover)) ⌝ }
+    requires { ⌜ Inside n (now required) (now columns) × Fits (now columns) (now uncovered) × (length (now required) ≤ 64 * length (now uncovered)) × (length (now taken) ≡ length (now uncovered)) ⌝ }
     requires { ⌜ ((k : ℕ) → CleanWord n (getD (now required) k 0)) ⌝ }
     ensures { λ r. ⌜ Answered n (inSet (now (off .entry))) (map (privilegedIn n) (now (privileged .entry))) (map (requiredIn n) (now (required .entry))) (now (cover .entry)) (now (cover .exit)) (minimisedOf r) ⌝ }
 {

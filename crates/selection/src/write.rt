@@ -3,6 +3,7 @@ ghost use mathlib.Core.Path.{_≡_};
 ghost use mathlib.Core.List.{_++_};
 ghost use Prim.Native.Nat.{_*_, _≤_};
 ghost use lib.ListN.{length, drop};
+ghost use Rattle.hazard.specs.Limits.{mostRequired};
 ghost use Rattle.hazard.specs.Minimal.{bytesOf};
 ghost use Rattle.cube.specs.Entry.{networkIn};
 use cube::bytes::write_product;
@@ -10,7 +11,7 @@ use cube::entry::cube_in;
 
 // The products, one after another; the bytes after the last keep their contents.
 pub fn write_network(n: usize, products: &[u64], cover: &mut [u8])
-    requires { ⌜ (n ≤ 10) × (length (now products) ≤ 2048) × (length (now products) * n ≤ length (now cover)) ⌝ }
+    requires { ⌜ (n ≤ 10) × (length (now products) ≤ mostRequired) × (length (now products) * n ≤ length (now cover)) ⌝ }
     ensures { λ _. ⌜ now (cover .exit) ≡ bytesOf (networkIn n (now (products .entry))) ++ drop (length (now (products .entry)) * n) (now (cover .entry)) ⌝ }
 {
     let mut at = 0;

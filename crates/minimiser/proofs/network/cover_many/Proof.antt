@@ -1,5 +1,7 @@
 use Rattle.minimiser.proofs.Rooms.{room-of, columns-of}
 use native.Mathlib.Omega.{arith}
+use Prim.Native.Nat.{_+_, _/_}
+use Rattle.hazard.specs.Limits.{mostRequired}
 use mathlib.Core.Path.{refl}
 use borrow.Author.Needs.{needs}
 use Rattle.minimiser.proofs.network.cover_many.Statement.{statement}
@@ -32,7 +34,7 @@ slice-aggregate-cover-with-8 c = search needs
 cover-with-requires : tie.Need-cover-with-requires
 cover-with-requires c κs =
     let s = c .before .before .before .before .before .before .before .before .before .before .before .before .before .before in
-    (s .pre .0, (s .pre .1 .0, s .pre .1 .1, refl, refl, room-of 2048 (s .pre .0 .1), columns-of 32 (omega arith) (omega (arith, s .pre .0 .1))))
+    (s .pre .0, (s .pre .1 .0, s .pre .1 .1, refl, refl, room-of mostRequired (s .pre .0 .1), columns-of ((mostRequired + 63) / 64) (omega arith) (omega (arith, s .pre .0 .1))))
 
 same-length : tie.Need-same-length
 same-length c = search needs

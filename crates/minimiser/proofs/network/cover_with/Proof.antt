@@ -47,7 +47,7 @@ blocks-into-requires : tie.Need-blocks-into-requires
 blocks-into-requires c κs =
     let s = c .before .before .before .before .before .before .before .before .before .before .before .before .before .before .before .before .before .before .before .before .before .before .before .before .before .before .before .before .before in
     let o = c .before .before .before .before .before .before .before .before .before .before .before .before .before .sets-into in
-    (required-fits (parts (o .ensures .2)) (s .pre .0 .1), s .pre .0 .0 .small, s .pre .1 .5 .whole)
+    (s .pre .0 .0 .small, omega (arith, required-length (parts (o .ensures .2)), s .pre .1 .5 .enough, s .pre .1 .5 .fits))
 
 sub-select : tie.Need-sub-select
 sub-select c = search needs
@@ -110,9 +110,10 @@ select-requires c κs =
     let h = parts (o .ensures .2) in
     let r = o .result .required - 0 in
     let l : r ≤ length (o .last .1 .1 .1 .1 .1 .1 .0) = omega (arith, o .ensures .1, o .kept .1 .1 .1 .1 .1 .1 .0) in
+    let w = c .before .before .before .before .before .before .before .before .before .before .before .before .before .blocks-into in
     let e = required-length h in (
       (words-ready (s .pre .0 .0 .small) (s .pre .1 .0 .long), c .before .before .before .before .before .before .before .before .before .before .before .before .before .before .before .before .before .before .before .columns-into .ensures, required-fits h (s .pre .0 .1), part-notes (s .pre .1 .4) r (o .last .1 .1 .1 .1 .1 .1 .0) e l, part-places (s .pre .1 .4) r (o .last .1 .1 .1 .1 .1 .1 .0) e l, required-room h (s .pre .0 .2)),
-      (let z = sets-part (o .result .required) _ (s .pre .1 .5) (part-size (s .pre .1 .4) (o .result .required) (o .last .1 .1 .1 .1 .1 .1 .0) (required-length (o .ensures .2)) (omega (arith, o .ensures .1, o .kept .1 .1 .1 .1 .1 .1 .0))) e in (c .before .before .before .before .before .before .before .before .before .before .before .before .before .blocks-into .ensures, z .0, z .1, z .2), h .clean),
+      (let z = sets-part (o .result .required) _ (w .last .1 .1 .1 .0) (s .pre .1 .5) (w .kept .1 .1 .1 .0) (part-size (s .pre .1 .4) (o .result .required) (o .last .1 .1 .1 .1 .1 .1 .0) (required-length (o .ensures .2)) (omega (arith, o .ensures .1, o .kept .1 .1 .1 .1 .1 .1 .0))) e in (w .ensures, z .0, z .1, z .2), h .clean),
     )
 
 same-length : tie.Need-same-length

@@ -4,6 +4,7 @@ use Prim.Native.Nat.{_-_, _*_, _≤_}
 use native.Mathlib.Omega.{arith}
 use lib.Dec.{T}
 use lib.ListN.{length, getD, length-set, length-replicate}
+use Rattle.hazard.specs.Limits.{mostRequired}
 use Rattle.hazard.specs.Cube.{inside}
 use Rattle.hazard.proofs.Test.{so-not, sure}
 use Rattle.cube.specs.Mask.{cubeOf}
@@ -20,7 +21,7 @@ use Rattle.selection.proofs.choose.choose.Statement.{statement}
 use Rattle.selection.proofs.choose.choose.Tie as tie
 
 abbrev Inv-loop : tie.InvT-loop
-Inv-loop n off privileged legal required columns uncovered₀ taken₀ firsts₀ products₀ flags₀ m₀ i₀ uncovered taken firsts products flags m i = Turn n off privileged required firsts products flags m i × (length products ≡ length products₀) × Unflagged (length required) flags uncovered × (length uncovered ≡ length uncovered₀) × (length taken ≡ length taken₀) × (length flags ≡ 2048)
+Inv-loop n off privileged legal required columns uncovered₀ taken₀ firsts₀ products₀ flags₀ m₀ i₀ uncovered taken firsts products flags m i = Turn n off privileged required firsts products flags m i × (length products ≡ length products₀) × Unflagged (length required) flags uncovered × (length uncovered ≡ length uncovered₀) × (length taken ≡ length taken₀) × (length flags ≡ mostRequired)
 
 abbrev μ-loop : tie.MeasureT-loop
 μ-loop n off privileged legal required columns uncovered₀ taken₀ firsts₀ products₀ flags₀ m₀ i₀ uncovered taken firsts products flags m i = length required - i
@@ -34,10 +35,10 @@ loop-holds c =
     let w = c .before .before .whole-into in (
       turn-start (s .args .n) (s .args .off .now) (s .args .privileged .now) (choosing-start _ _ _ _ _ (s .pre .0 .2) (s .pre .0 .3) (s .pre .0 .4)),
       refl,
-      unflagged-start 2048 (length (s .args .required .now)) (w .last .1 .0) (omega (arith, s .pre .1 .0 .2, w .kept .1 .0)) (λ k l. w .ensures k (omega (arith, l, w .kept .1 .0))),
+      unflagged-start mostRequired (length (s .args .required .now)) (w .last .1 .0) (omega (arith, s .pre .1 .0 .2, w .kept .1 .0)) (λ k l. w .ensures k (omega (arith, l, w .kept .1 .0))),
       refl,
       refl,
-      length-replicate 2048 false,
+      length-replicate mostRequired false,
     )
 
 add-i : tie.Need-add-i Inv-loop μ-loop
@@ -52,7 +53,7 @@ product-for-requires c κs =
     let l = c .before .before .before .loop in
     let w = c .before .before .before .before .before .before .whole-into in
     let t = c .before .before .loop-test .taken in
-    ((s .pre .0 .0, s .pre .0 .1, omega (arith, t)), ((s .pre .1 .0 .0 .long, omega (arith, l .inv .3, w .kept .1 .0, s .pre .1 .0 .1), omega (arith, l .inv .3, w .kept .1 .0, s .pre .1 .0 .2, t)), s .pre .1 .1))
+    ((s .pre .0 .0, s .pre .0 .1, omega (arith, t)), ((omega (arith, l .inv .3, w .kept .1 .0, s .pre .1 .0 .1), omega (arith, l .inv .3, w .kept .1 .0, s .pre .1 .0 .2, t)), s .pre .1 .1))
 
 enum-known-made : tie.Need-enum-known-made Inv-loop μ-loop
 enum-known-made c = search needs
@@ -95,7 +96,7 @@ flag-product-requires c κs =
     let s = c .before .before .before .before .before .before .before .before .before .before .before .before .before .before .before .before .before .before .before .before .before .before .before .before .before in
     let l = c .before .before .before .before .before .before .before .before .before .before .before .loop in
     let w = c .before .before .before .before .before .before .before .before .before .before .before .before .before .before .whole-into in (
-      (s .pre .0 .0 .few, s .pre .1 .0 .0 .long, omega (arith, l .inv .3, w .kept .1 .0, s .pre .1 .0 .1), l .inv .4 ∙ s .pre .1 .0 .3 ∙ sym (w .kept .1 .0) ∙ sym (l .inv .3)),
+      (s .pre .0 .0 .few, omega (arith, l .inv .3, w .kept .1 .0, s .pre .1 .0 .1), l .inv .4 ∙ s .pre .1 .0 .3 ∙ sym (w .kept .1 .0) ∙ sym (l .inv .3)),
       λ i t. omega (arith, unflagged-low (length (s .args .required .now)) (l .flags) (l .uncovered) (l .inv .2) i t, s .pre .0 .2, l .inv .5),
     )
 

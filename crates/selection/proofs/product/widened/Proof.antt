@@ -2,13 +2,14 @@ use Prim.Native.Nat.{_-_, _<_}
 use native.Mathlib.Omega.{arith}
 use lib.Count.{trailing-le}
 use Rattle.cube.specs.Mask.{cubeOf}
+use Rattle.blocks.specs.Sets.{mostWords}
 use Rattle.selection.proofs.Products.{Stage, stage-start, stage-step, stage-end}
 use borrow.Author.Needs.{needs}
 use Rattle.selection.proofs.product.widened.Statement.{statement}
 use Rattle.selection.proofs.product.widened.Tie as tie
 
 abbrev Inv-loop : tie.InvT-loop
-Inv-loop n off privileged legal required columns left i b p₀ tries₀ p tries = Stage n off privileged (cubeOf n p₀) p × (b < 32)
+Inv-loop n off privileged legal required columns left i b p₀ tries₀ p tries = Stage n off privileged (cubeOf n p₀) p × (b < mostWords)
 
 abbrev μ-loop : tie.MeasureT-loop
 μ-loop n off privileged legal required columns left i b p₀ tries₀ p tries = tries
@@ -23,7 +24,7 @@ near-requires : tie.Need-near-requires Inv-loop μ-loop
 near-requires c κs = search needs
 
 loop-holds : tie.Need-loop-holds Inv-loop μ-loop
-loop-holds c = let s = c .before .before .before .before .before .before .before .before in (stage-start (s .args .n) (s .args .off .now) (s .args .privileged .now) (s .pre .1 .1 .1) (s .pre .1 .1 .0), omega (arith, s .pre .1 .0 .1, s .pre .1 .0 .2))
+loop-holds c = let s = c .before .before .before .before .before .before .before .before in (stage-start (s .args .n) (s .args .off .now) (s .args .privileged .now) (s .pre .1 .1 .1) (s .pre .1 .1 .0), omega (arith, s .pre .1 .0 .0, s .pre .1 .0 .1))
 
 mul-k : tie.Need-mul-k Inv-loop μ-loop
 mul-k c = search needs
