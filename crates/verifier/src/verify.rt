@@ -7,10 +7,10 @@ ghost use Rattle.hazard.specs.Verdict.{Verified};
 ghost use Rattle.points.specs.Plane.{Plane};
 ghost use Rattle.conditions.specs.Answer.{verdictOf};
 use crate::judge::judge;
-use conditions::fault::Verdict;
-use conditions::check::network_checks;
-use checks::many::Counted;
 use checks::check::check;
+use checks::many::Counted;
+use conditions::check::network_checks;
+use conditions::fault::Verdict;
 use refusal::checked::Checked;
 
 // Checks 11 and 12, and the verdict, of a network for a problem that the input rules accept: its required cubes are counted, and `off` and
