@@ -3,6 +3,7 @@ use mathlib.Core.List.{List, [], _∷_, _++_}
 use Prim.Native.Nat.{ℕ, _+_, _*_, _≤_}
 use native.Mathlib.Nat.{mul-le-mul}
 use native.Mathlib.Omega.{arith}
+use Rattle.hazard.specs.Limits.{mostRequired}
 use Rattle.hazard.specs.Refusal.{Refusal}
 use Rattle.problem_text.specs.Decimal.{decimal}
 use Rattle.problem_text.specs.Form.{newline}
@@ -18,8 +19,8 @@ number-next x p = wrote-next p 5 (spelled-length 5 x)
 pub field-next : {before after : List ℕ} {at next : ℕ} (x : ℕ) → Wrote before at (field x) after next → next ≤ at + 6
 field-next x p = wrote-next p 6 (omega (arith, spelled-length 5 x))
 
--- At most 2,048 lines of at most 11 bytes.
-pub lines-most : (n count : ℕ) → n ≤ 10 → count ≤ 2048 → count * (n + 1) ≤ 22528
+-- At most a line of 11 bytes for each required cube.
+pub lines-most : (n count : ℕ) → n ≤ 10 → count ≤ mostRequired → count * (n + 1) ≤ 11 * mostRequired
 lines-most n count h l = let s : n + 1 ≤ 11 = omega arith in mul-le-mul l s
 
 -- The head, the count, the end of the line and the lines.

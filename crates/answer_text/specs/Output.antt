@@ -1,7 +1,8 @@
 -- What the program prints.
 use mathlib.Core.List.{List, [], _∷_, _++_, map}
-use Prim.Native.Nat.{ℕ}
+use Prim.Native.Nat.{ℕ, _+_, _*_}
 use lib.ListN.{length}
+use Rattle.hazard.specs.Limits.{mostRequired}
 use Rattle.hazard.specs.Cover.{Network}
 use Rattle.hazard.specs.Refusal.{Refusal}
 use Rattle.problem_text.specs.Decimal.{decimal}
@@ -23,6 +24,10 @@ productLines (p ∷ net) = map cell p ++ (newline ∷ productLines net)
 -- A network: how many products, and the products.
 abbrev pub networkText : Network → List ℕ
 networkText net = productsHead ++ (decimal (length net) ++ (newline ∷ productLines net))
+
+-- The bytes of the longest output: a head of 9, a count of 5, an end of line, and a line of 11 for each required cube.
+abbrev pub mostOutput : ℕ
+mostOutput = 15 + 11 * mostRequired
 
 -- A field of a refusal, one space before it.
 abbrev pub field : ℕ → List ℕ

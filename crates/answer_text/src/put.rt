@@ -3,6 +3,7 @@ ghost use mathlib.Core.List.{_∷_, [], _++_, map};
 ghost use Prim.Native.Nat.{_+_, _*_, _^_, _≤_, _<_};
 ghost use mathlib.Core.Path.{_≡_};
 ghost use lib.ListN.{length};
+ghost use Rattle.hazard.specs.Limits.{mostRequired};
 ghost use Rattle.hazard.specs.Verdict.{cut};
 ghost use Rattle.problem_text.specs.Decimal.{decimal, spelled};
 ghost use Rattle.problem_text.specs.Form.{newline, cell};
@@ -80,7 +81,7 @@ fn put_product(product: &[u8], out: &mut [u8], at: usize) -> usize
 
 // The products whose bytes stand one after another, a line each.
 pub fn put_products(n: usize, count: usize, products: &[u8], out: &mut [u8], at: usize) -> usize
-    requires { ⌜ (count * n ≤ length (now products)) × (at + count * (n + 1) ≤ length (now out)) × (n ≤ 10) × (count ≤ 2048) ⌝ }
+    requires { ⌜ (count * n ≤ length (now products)) × (at + count * (n + 1) ≤ length (now out)) × (n ≤ 10) × (count ≤ mostRequired) ⌝ }
     ensures { λ r. ⌜ Wrote (now (out .entry)) at (productLines (cut n count (now (products .entry)))) (now (out .exit)) r ⌝ }
 {
     let mut next = at;

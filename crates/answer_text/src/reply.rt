@@ -2,17 +2,22 @@
 ghost use Prim.Native.Nat.{_*_, _≤_};
 ghost use mathlib.Core.List.{_∷_, _++_};
 ghost use lib.ListN.{length};
+ghost use Rattle.hazard.specs.Limits.{mostRequired};
 ghost use Rattle.hazard.specs.Verdict.{cut};
 ghost use Rattle.refusal.specs.Answer.{refusalOf};
 ghost use Rattle.problem_text.specs.Decimal.{decimal};
 ghost use Rattle.problem_text.specs.Form.{newline};
-ghost use Rattle.answer_text.specs.Output.{productsHead, productLines, refusalText};
+ghost use Rattle.answer_text.specs.Output.{productsHead, productLines, mostOutput, refusalText};
 ghost use Rattle.answer_text.specs.Wrote.{Wrote};
 use crate::put::put_bytes;
 use crate::put::put_field;
 use crate::put::put_number;
 use crate::put::put_products;
+use hazard::limits::MOST_REQUIRED;
 use refusal::refusal::Refusal;
+
+// The bytes of the longest output: a head of 9, a count of 5, an end of line, and a line of 11 for each required cube.
+pub const MOST_OUTPUT: usize = 15 + 11 * MOST_REQUIRED;
 
 // The number and the fields of a refusal.
 pub fn put_refusal(r: Refusal, out: &mut [u8]) -> usize
@@ -30,7 +35,7 @@ pub fn put_refusal(r: Refusal, out: &mut [u8]) -> usize
 
 // The count of the products, and the products.
 pub fn put_network(n: usize, count: usize, products: &[u8], out: &mut [u8]) -> usize
-    requires { ⌜ (count * n ≤ length (now products)) × (n ≤ 10) × (count ≤ 2048) × (22543 ≤ length (now out)) ⌝ }
+    requires { ⌜ (count * n ≤ length (now products)) × (n ≤ 10) × (count ≤ mostRequired) × (mostOutput ≤ length (now out)) ⌝ }
     ensures { λ next. ⌜ Wrote (now (out .entry)) 0 (productsHead ++ (decimal count ++ (newline ∷ productLines (cut n count (now (products .entry)))))) (now (out .exit)) next ⌝ }
 {
     let mut at = put_bytes(b"products ", out, 0);

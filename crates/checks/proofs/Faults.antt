@@ -15,9 +15,10 @@ use Rattle.hazard.specs.Refusal.{refusal, definedCheck}
 use Rattle.cube.specs.PointSet.{inSet}
 use Rattle.points.specs.PointWord.{PointsOf}
 use Rattle.points.specs.Plane.{Plane}
-use Rattle.points.specs.Further.{furtherIn}
 use Rattle.points.proofs.Walk.{Agrees}
-use Rattle.points.proofs.Agree.{first-same, plane-agrees, turns-agree}
+use Rattle.points.proofs.Agree.{first-same, plane-agrees}
+use Rattle.moves.specs.Further.{furtherIn}
+use Rattle.moves.proofs.Agree.{turns-agree}
 use Rattle.checks.specs.Fault.{definedIn, breaksIn, brokenIn}
 
 -- Looks that find the same are found at the same place.

@@ -8,7 +8,7 @@ use Rattle.hazard.specs.Cube.{has, span}
 use Rattle.hazard.specs.Transition.{start, end, count, Kind, low, rise, fall, high}
 use Rattle.hazard.specs.Implicant.{lowestZero}
 use Rattle.hazard.specs.Refusal.{Refusal, refusal}
-use Rattle.points.specs.Turn.{turns}
+use Rattle.moves.specs.Turn.{turns}
 
 -- Check 6, of the set of the don't cares.
 abbrev pub definedIn : ℕ → (ℕ → Bool) → List ℕ → Option Refusal

@@ -6,6 +6,8 @@ use crate::print::end_with;
 use crate::print::print_products;
 use crate::print::print_refusal;
 use crate::print::start_with;
+use hazard::limits::MOST_COVER;
+use hazard::limits::MOST_REQUIRED;
 use minimiser::minimise::minimise;
 use refusal::refusal::Refusal;
 use selection::minimised::Minimised;
@@ -50,7 +52,7 @@ fn bytes_of(n: usize, count: usize, cover: &[u8]) -> usize
     if 10 < n {
         return 0;
     }
-    if 2048 < count {
+    if MOST_REQUIRED < count {
         return 0;
     }
     let end = n * count;
@@ -98,9 +100,9 @@ fn both_in_part(
     }
 }
 
-// The same in a buffer of this size, which is at most that of 2,048 products of ten inputs.
+// The same in a buffer of this size, which is at most that of the longest network.
 pub(crate) fn both_in(name: &[u8], n: usize, table: &[u8], transitions: &[u16], size: usize) {
-    let mut cover = [0u8; 20480];
+    let mut cover = [0u8; MOST_COVER];
     both_in_part(name, n, table, transitions, size, &mut cover);
 }
 

@@ -1,5 +1,6 @@
 // Every example: the text that one argument names is answered, and the output is compared with the file that the next one names.
 ghost use Rattle.io.specs.Counts.{Counts};
+use answer_text::reply::MOST_OUTPUT;
 use quiet_text::answer::reply;
 
 // A file that is not there would read as an empty one, so it is told.
@@ -53,7 +54,7 @@ fn example(i: usize, j: usize) {
     let k = file_into(i, &mut text);
     let mut expected = io::large_buffer();
     let e = file_into(j, &mut expected);
-    let mut out = [0u8; 22543];
+    let mut out = [0u8; MOST_OUTPUT];
     let count = reply(&text[..k], &mut out);
     judge(&out[0..count], &expected[..e]);
 }

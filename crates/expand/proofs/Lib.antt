@@ -1,4 +1,3 @@
 pub mod Growing
-pub mod Illegal
 pub mod Outcome
 pub mod Raising

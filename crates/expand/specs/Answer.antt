@@ -1,23 +1,16 @@
 -- The definitions' answers, for the code's.
 use mathlib.Core.Path.{_≡_}
 use mathlib.Core.List.{List, map}
-use mathlib.Core.Option.{Option, none, some}
 use Prim.Native.Nat.{ℕ, _≤_}
 use Rattle.hazard.specs.Cube as digits
-use Rattle.hazard.specs.Sets.{Required, Privileged}
+use Rattle.hazard.specs.Sets.{Required}
 use Rattle.hazard.specs.Refusal.{Refusal, growthRefusal}
 use Rattle.hazard.specs.Growth as spec
 use Rattle.cube.specs.Mask.{cubeOf, Clean}
 use Rattle.cube.specs.Entry.{privilegedIn}
 use Rattle.cube.specs.PointSet.{inSet}
-use Rattle.expand.specs.declared.meeting.Met.{Met}
-use Rattle.expand.specs.declared.meeting.Met.the-variants as met
 use Rattle.expand.specs.declared.growth.Grown.{Grown}
 use Rattle.expand.specs.declared.growth.Grown.the-variants.{Legal, Blocked}
-
-abbrev pub metOf : ℕ → Met → Option Privileged
-metOf n (met.At w) = some (privilegedIn n w)
-metOf n met.Nothing = none
 
 abbrev pub grownOf : ℕ → Grown → spec.Growth
 grownOf n (Legal c s) = spec.Legal (cubeOf n c) s

@@ -1,13 +1,13 @@
 // Supercube-dhf: a cube grown until it is legal or blocked.
 ghost use Rattle.cube.specs.Mask.{cubeOf, Clean};
 ghost use Rattle.points.specs.Ready.{Ready};
-ghost use Rattle.expand.specs.Columns.{Columns};
+ghost use Rattle.legality.specs.Columns.{Columns};
 ghost use Rattle.expand.specs.Answer.{Grows};
-use crate::meeting::Met;
-use crate::meeting::first_illegal;
 use cube::entry::point_in;
 use cube::mask::Cube;
 use cube::mask::joined;
+use legality::meeting::Met;
+use legality::meeting::first_illegal;
 use points::lowest::Found;
 use points::lowest::lowest_in;
 

@@ -6,7 +6,7 @@ ghost use Rattle.cube.specs.Mask.{cubeOf, Clean, Stands};
 ghost use Rattle.cube.specs.Entry.{privilegedIn};
 ghost use Rattle.cube.specs.PointSet.{inSet};
 ghost use Rattle.points.specs.Ready.{Ready};
-ghost use Rattle.expand.specs.Columns.{Columns};
+ghost use Rattle.legality.specs.Columns.{Columns};
 ghost use Rattle.expand.specs.Answer.{grownOf, LegalClean};
 use crate::growth::Grown;
 use crate::growth::grow;

@@ -108,12 +108,14 @@ later-found {ks} {l} m {q} s t e = go (firstOf l) refl
 module _ (n : ℕ) (f ts : List ℕ) where
   -- The input rules have numbers, which compute to a list,
   abbrev pub input-numbers : (ks : List ℕ) × Numbers ks (inputChecks n f ts)
-  input-numbers =
-      (_, next (inputs-number n)
-      (next (length-number n f) (next (bytes-number n f)
-      (next (list-number n ts) (next (ends-number n ts)
-      (next (defined-number n f ts) (next (rules-number n f ts)
-      (next (many-number n f ts) no-more))))))))
+  input-numbers = (
+    _,
+    next (inputs-number n)
+        (next (length-number n f) (next (bytes-number n f)
+        (next (list-number n ts) (next (ends-number n ts)
+        (next (defined-number n f ts) (next (rules-number n f ts)
+        (next (many-number n f ts) no-more))))))),
+  )
 
   -- and so have the checks before blocking,
   abbrev pub room-numbers : (room : ℕ) → (ks : List ℕ) × Numbers ks (inputChecks n f ts ++ (roomCheck n f ts room ∷ []))

@@ -1,8 +1,6 @@
 pub mod PlaneWord
-pub mod FurtherWord
-pub mod TurnWord
+pub mod Masked
 pub mod Walk
 pub mod Agree
 pub mod Ready
 pub mod Members
-pub mod Movement

@@ -15,9 +15,8 @@ use Rattle.cube.specs.declared.mask.Cube.{Cube}
 use Rattle.cube.specs.Mask.{cubeOf, Clean}
 use Rattle.cube.specs.Next.{Next}
 use Rattle.cube.proofs.ByWords.{Lowest, lowest-bit, first-at, first-not, word-first, word-below}
-use Rattle.points.specs.PointWord.{WordOf}
-use Rattle.points.specs.Turn.{masked}
-use Rattle.points.proofs.TurnWord.{none-passes}
+use Rattle.points.specs.PointWord.{WordOf, masked}
+use Rattle.points.proofs.Masked.{none-passes}
 
 -- A test that holds does not fail.
 pub true-false : _≡_ {A = Bool} true false → ⊥

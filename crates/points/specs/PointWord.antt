@@ -1,6 +1,6 @@
 -- One word of a set of points, and sixteen words as a set of points.
 use mathlib.Core.Path.{_≡_}
-use mathlib.Core.Bool.{Bool, false}
+use mathlib.Core.Bool.{Bool, false, _&&_}
 use mathlib.Core.List.{List}
 use Prim.Native.Nat.{ℕ, _*_, _/_, _%_, _^_, _≤_, _<_}
 use lib.Dec.{eqb}
@@ -13,6 +13,10 @@ use Rattle.cube.specs.PointSet.{inSet}
 pub record WordOf (test : ℕ → Bool) (w r : ℕ) : Type 0 where
   pub small : r < 2 ^ 64
   pub bits : (x : ℕ) → x / 64 ≡ w → eqb (bit r (x % 64)) 1 ≡ test x
+
+-- The mask has the point's bit, and the point passes the test.
+abbrev pub masked : ℕ → (ℕ → Bool) → ℕ → Bool
+masked m test x = eqb (bit m (x % 64)) 1 && test x
 
 -- The points of word w that are bits of r, ascending.
 unfoldable pub pointsIn : ℕ → ℕ → List ℕ

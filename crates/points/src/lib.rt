@@ -1,5 +1,4 @@
 // Sets of points, 64 at a time: point x is bit x % 64 of word x / 64.
-pub mod further;
 pub mod lowest;
 pub mod plane;
-pub mod turn;
+pub mod word;

@@ -5,7 +5,7 @@ ghost use Rattle.cube.specs.Mask.{cubeOf, Clean};
 ghost use Rattle.cube.specs.PointSet.{inSet};
 ghost use Rattle.points.specs.Ready.{Ready};
 ghost use Rattle.points.specs.Found.{foundOf};
-use crate::turn::set_points;
+use crate::word::set_points;
 use cube::mask::Cube;
 use cube::point::next;
 use cube::word_mask::low_mask;

@@ -1,5 +1,5 @@
 // A problem's text.
-ghost use Prim.Native.Nat.{_≤_};
+ghost use Prim.Native.Nat.{_/_, _≤_};
 ghost use lib.ListN.{length};
 ghost use Rattle.problem_text.specs.Read.{Reading};
 use crate::count::Count;
@@ -14,9 +14,10 @@ pub enum Read {
     Malformed,
 }
 
-// The number of inputs, then the table, then the transitions, each into its lent room.
+// The number of inputs, then the table, then the transitions, each into its lent room. A number takes at least two bytes of a text, so that a
+// text of 4,096 bytes has at most half as many.
 pub fn read_problem(text: &[u8], table: &mut [u8], transitions: &mut [u16]) -> Read
-    requires { ⌜ (4096 ≤ length (now table)) × (2048 ≤ length (now transitions)) ⌝ }
+    requires { ⌜ (4096 ≤ length (now table)) × (4096 / 2 ≤ length (now transitions)) ⌝ }
     ensures { λ r. ⌜ Reading (now (text .entry)) (now (table .exit)) (now (transitions .exit)) r ⌝ }
 {
     if 4096 < text.len() {

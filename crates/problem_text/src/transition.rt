@@ -1,6 +1,6 @@
 // The lines of transitions.
 ghost use mathlib.Core.Path.{_≡_};
-ghost use Prim.Native.Nat.{_≤_};
+ghost use Prim.Native.Nat.{_/_, _≤_};
 ghost use lib.ListN.{length, drop};
 ghost use Rattle.problem_text.specs.Read.{transitionLine, lineOf, afterLine, Lines};
 use crate::count::Count;
@@ -28,7 +28,7 @@ fn transition_at(text: &[u8], from: usize) -> Line
 
 // The numbers of all lines from a place on, two for each; a line takes at least four bytes.
 pub fn transitions_into(text: &[u8], from: usize, transitions: &mut [u16]) -> Count
-    requires { ⌜ (from ≤ length (now text)) × (length (now text) ≤ 4096) × (2048 ≤ length (now transitions)) ⌝ }
+    requires { ⌜ (from ≤ length (now text)) × (length (now text) ≤ 4096) × (4096 / 2 ≤ length (now transitions)) ⌝ }
     ensures { λ r. ⌜ Lines (drop from (now (text .entry))) (now (transitions .exit)) r ⌝ }
 {
     let mut k = 0;

@@ -10,7 +10,7 @@ use Rattle.hazard.specs.Search.{firstOf}
 use Rattle.hazard.specs.Refusal.{Refusal, refusal}
 use Rattle.hazard.proofs.Search.{none-some}
 use Rattle.problem_text.specs.Form.{Form, flat}
-use Rattle.answer_text.specs.Output.{refusalText}
+use Rattle.answer_text.specs.Output.{mostOutput, refusalText}
 use Rattle.problem_text.specs.Read.{Reading, problem, malformed}
 use Rattle.quiet_text.specs.Answer.{checks, Printed, Solved, Replied}
 use Rattle.problem_text.specs.declared.read.Read.the-variants as read
@@ -46,7 +46,7 @@ only-solved {n = n} {f = f} {ps = ps} {before = before} {after = after} {r = r} 
     subst (λ (qs : List (ℕ × ℕ)). Solved m g (flat qs) before after r) k a₂
 
 module _ {text before after : List ℕ} {r : Option ℕ} where
-  pub replied-short : length before < 22543 → after ≡ before → r ≡ none → Replied text before after r
+  pub replied-short : length before < mostOutput → after ≡ before → r ≡ none → Replied text before after r
   replied-short h e n =
       record {
         noRoom = λ l. (n, e);
@@ -56,7 +56,7 @@ module _ {text before after : List ℕ} {r : Option ℕ} where
         solved = λ l. absurd (omega (arith, l));
       }
 
-  module _ {f ts : List ℕ} (h : 22543 ≤ length before) where
+  module _ {f ts : List ℕ} (h : mostOutput ≤ length before) where
     pub replied-malformed : Reading text f ts read.Malformed → Printed before (refusalText (refusal 13 0 0)) after r → Replied text before after r
     replied-malformed (malformed n) w =
         record {

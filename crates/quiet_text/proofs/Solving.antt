@@ -11,6 +11,7 @@ use lib.Dec.{T, ltb}
 use lib.ListN.{length, getD, take, drop, length-append, length-map}
 use lib.Seq.{take-at, drop-at, sets-eq}
 use borrow.Author.Tests.{le-ltb}
+use Rattle.hazard.specs.Limits.{mostRequired, mostCover}
 use Rattle.hazard.specs.Search.{firstOf}
 use Rattle.hazard.specs.Cube.{Cube, isProduct}
 use Rattle.hazard.specs.Sets.{required}
@@ -25,25 +26,25 @@ use Rattle.hazard.proofs.Rules.{few-inputs, required-few}
 use Rattle.hazard.proofs.Numbers.{block-number, Numbers, no-more, next, numbers-append, listed, number-listed, input-numbers}
 use Rattle.problem_text.specs.Decimal.{decimal}
 use Rattle.problem_text.specs.Form.{newline, cell}
-use Rattle.answer_text.specs.Output.{productsHead, productLines, networkText, field, refusalText}
+use Rattle.answer_text.specs.Output.{productsHead, productLines, networkText, mostOutput, field, refusalText}
 use Rattle.answer_text.specs.Wrote.{Wrote}
 use Rattle.quiet_text.specs.Answer.{checks, Printed, Solved}
 use Rattle.problem_text.proofs.Decimal.{spelled-length}
 use Rattle.answer_text.proofs.Replies.{lines-most}
 
 module _ (n : ℕ) (f ts : List ℕ) where
-  -- 9 is none of the numbers.
+  -- The checks have numbers, which compute to a list; 9 is none of them.
+  abbrev numbers : (ks : List ℕ) × Numbers ks (checks n f ts)
+  numbers = (_, numbers-append (input-numbers n f ts .1) (next (block-number n f ts) no-more))
+
   pub never-nine : (q : Refusal) → firstOf (checks n f ts) ≡ some q → q .number ≢ 9
   never-nine q e h = subst (λ (k : ℕ). T (listed k (numbers .0))) h (number-listed (numbers .1) e)
-    where
-      abbrev numbers : (ks : List ℕ) × Numbers ks (checks n f ts)
-      numbers = (_, numbers-append (input-numbers n f ts .1) (next (block-number n f ts) no-more))
 
-  module _ {room : ℕ} (h : 20480 ≤ room) where
+  module _ {room : ℕ} (h : mostCover ≤ room) where
     -- The room is enough, so check 9 finds nothing.
     room-enough : Accepted n f ts → roomCheck n f ts room ≡ none
     room-enough a =
-        let l : n * length (required n f ts) ≤ 20480 = mul-le-mul (few-inputs n f ts a .1) (required-few n f ts a) in
+        let l : n * length (required n f ts) ≤ mostCover = mul-le-mul (few-inputs n f ts a .1) (required-few n f ts a) in
         let b : ltb room (n * length (required n f ts)) ≡ false = le-ltb room (n * length (required n f ts)) (omega arith) in
         ap (λ (b : Bool). refuseIf b 9) b
 
@@ -127,7 +128,7 @@ record Made (n : ℕ) (f ts before after : List ℕ) (k : ℕ) : Type 0 where
 
 module _ {n : ℕ} {f ts before after : List ℕ} where
   -- A refusal, printed.
-  pub solved-refused : {m : Refusal} {out out′ : List ℕ} {r : ℕ} → 20480 ≤ length before → minimal.Promise n f ts before after (declined m)
+  pub solved-refused : {m : Refusal} {out out′ : List ℕ} {r : ℕ} → mostCover ≤ length before → minimal.Promise n f ts before after (declined m)
       → Printed out (refusalText m) out′ (some r) → Solved n f ts out out′ (some r)
   solved-refused {m} {out} {out′} {r} h p w =
       record {
@@ -150,7 +151,7 @@ module _ {n : ℕ} {f ts before after : List ℕ} where
       ten a (some q) e = ap (λ (q : Refusal). q .number) (same q e) ∙ only-ten n f ts h a q e
       ten a none e = none-here (p .network (same-checks n f ts h ∙ e))
 
-  made : {k : ℕ} → 20480 ≤ length before → minimal.Promise n f ts before after (written k) → Made n f ts before after k
+  made : {k : ℕ} → mostCover ≤ length before → minimal.Promise n f ts before after (written k) → Made n f ts before after k
   made {k} h p = go (firstOf (checks n f ts)) refl
     where
       never : {C : Type 0} (q : Refusal) → written k ≡ declined q → C
@@ -173,15 +174,15 @@ module _ {n : ℕ} {f ts before after : List ℕ} where
   product-of m p u = m .minimal· .primes p u .product
 
   -- Enough for the network's output.
-  pub network-room : {k : ℕ} → 20480 ≤ length before → minimal.Promise n f ts before after (written k) → length after ≡ length before → (k * n ≤ length after) × (n ≤ 10) × (k ≤ 2048)
+  pub network-room : {k : ℕ} → mostCover ≤ length before → minimal.Promise n f ts before after (written k) → length after ≡ length before → (k * n ≤ length after) × (n ≤ 10) × (k ≤ mostRequired)
   network-room {k} h p l =
       let m = made h p in
-      let few : k ≤ 2048 = omega (arith, m .size, m .minimal· .few, required-few n f ts (m .accepted)) in
+      let few : k ≤ mostRequired = omega (arith, m .size, m .minimal· .few, required-few n f ts (m .accepted)) in
       let inputs = few-inputs n f ts (m .accepted) .1 in
       (omega (arith, mul-le-mul few inputs), inputs, few)
 
   -- A network, printed.
-  pub solved-written : {k : ℕ} {out out′ : List ℕ} {r : ℕ} → 20480 ≤ length before → minimal.Promise n f ts before after (written k) → 22543 ≤ length out
+  pub solved-written : {k : ℕ} {out out′ : List ℕ} {r : ℕ} → mostCover ≤ length before → minimal.Promise n f ts before after (written k) → mostOutput ≤ length out
       → Wrote out 0 (productsHead ++ (decimal k ++ (newline ∷ productLines (cut n k after)))) out′ r → Solved n f ts out out′ (some r)
   solved-written {k} {out} {out′} {r} h p room w =
       record {
@@ -202,7 +203,7 @@ module _ {n : ℕ} {f ts before after : List ℕ} where
       fits : length (networkText (m .net)) ≤ length out
       fits =
           let inputs = few-inputs n f ts (m .accepted) .1 in
-          let few : length (m .net) ≤ 2048 = omega (arith, m .minimal· .few, required-few n f ts (m .accepted)) in
+          let few : length (m .net) ≤ mostRequired = omega (arith, m .minimal· .few, required-few n f ts (m .accepted)) in
           omega (
             arith,
             length-append (decimal (length (m .net))) (newline ∷ productLines (m .net)),

@@ -10,7 +10,7 @@ use Rattle.hazard.specs.Cover.{Network}
 use Rattle.hazard.specs.Refusal.{Refusal, refusal, inputChecks, Accepted}
 use Rattle.hazard.specs.Minimal.{blocking, Minimal, NoNetwork}
 use Rattle.problem_text.specs.Form.{Form, Formed, flat}
-use Rattle.answer_text.specs.Output.{networkText, refusalText}
+use Rattle.answer_text.specs.Output.{networkText, mostOutput, refusalText}
 use Rattle.quiet_text.specs.declared.answer.Output.{Output}
 use Rattle.quiet_text.specs.declared.answer.Output.the-variants.{Written, NoRoom}
 
@@ -37,14 +37,14 @@ pub record Solved (n : ℕ) (f ts before after : List ℕ) (r : Option ℕ) : Ty
   -- Where the input rules hold: refusal 10 exactly if there is no hazard-free network.
   pub none· : Accepted n f ts → ((q : Refusal) × Printed before (refusalText q) after r × (q .number ≡ 10)) ↔ NoNetwork n f ts
 
--- What is printed for a text, into a buffer of at least 22,543 bytes; a shorter one is left as it was.
+-- What is printed for a text, into a buffer with room for the longest output; a shorter one is left as it was.
 pub record Replied (text before after : List ℕ) (r : Option ℕ) : Type 0 where
-  pub noRoom : length before < 22543 → (r ≡ none) × (after ≡ before)
+  pub noRoom : length before < mostOutput → (r ≡ none) × (after ≡ before)
   -- What is counted lies in the buffer.
   pub within : (k : ℕ) → r ≡ some k → k ≤ length after
   -- The output is never empty.
   pub some· : (k : ℕ) → r ≡ some k → 0 < k
   -- 13: the text is not of the form.
-  pub malformed : 22543 ≤ length before → ¬ Formed text → Printed before (refusalText (refusal 13 0 0)) after r
+  pub malformed : mostOutput ≤ length before → ¬ Formed text → Printed before (refusalText (refusal 13 0 0)) after r
   -- It is: the answer for what it says.
-  pub solved : 22543 ≤ length before → (n : ℕ) (f : List ℕ) (ps : List (ℕ × ℕ)) → Form text n f ps → Solved n f (flat ps) before after r
+  pub solved : mostOutput ≤ length before → (n : ℕ) (f : List ℕ) (ps : List (ℕ × ℕ)) → Form text n f ps → Solved n f (flat ps) before after r

@@ -1,14 +1,18 @@
 // The program's call: the output for a text.
 ghost use mathlib.Core.Option.{some};
-ghost use Prim.Native.Nat.{_≤_, _<_};
+ghost use Prim.Native.Nat.{_/_, _≤_};
 ghost use lib.ListN.{length};
+ghost use Rattle.hazard.specs.Limits.{mostCover};
+ghost use Rattle.answer_text.specs.Output.{mostOutput};
 ghost use Rattle.quiet_text.specs.Answer.{writtenOf, Solved, Replied};
+use answer_text::reply::MOST_OUTPUT;
 use answer_text::reply::put_network;
 use answer_text::reply::put_refusal;
+use hazard::limits::MOST_COVER;
 use minimiser::minimise::minimise;
-use refusal::refusal::refuse;
 use problem_text::read::Read;
 use problem_text::read::read_problem;
+use refusal::refusal::refuse;
 use selection::minimised::Minimised;
 
 // How many bytes of the buffer are the output; or the buffer is too short for every output, and is left as it was.
@@ -19,7 +23,7 @@ pub enum Output {
 
 // The output for a problem.
 fn solve(n: usize, table: &[u8], transitions: &[u16], cover: &mut [u8], out: &mut [u8]) -> usize
-    requires { ⌜ (20480 ≤ length (now cover)) × (22543 ≤ length (now out)) ⌝ }
+    requires { ⌜ (mostCover ≤ length (now cover)) × (mostOutput ≤ length (now out)) ⌝ }
     ensures { λ r. ⌜ Solved n (now (table .entry)) (now (transitions .entry)) (now (out .entry)) (now (out .exit)) (some r) ⌝ }
 {
     match minimise(n, table, transitions, cover) {
@@ -36,7 +40,7 @@ fn reply_with(
     cover: &mut [u8],
     out: &mut [u8],
 ) -> usize
-    requires { ⌜ (4096 ≤ length (now table)) × (2048 ≤ length (now transitions)) × (20480 ≤ length (now cover)) × (22543 ≤ length (now out)) ⌝ }
+    requires { ⌜ (4096 ≤ length (now table)) × (4096 / 2 ≤ length (now transitions)) × (mostCover ≤ length (now cover)) × (mostOutput ≤ length (now out)) ⌝ }
     ensures { λ r. ⌜ Replied (now (text .entry)) (now (out .entry)) (now (out .exit)) (some r) ⌝ }
 {
     let Read::Problem(n, k, t) = read_problem(text, table, transitions) else {
@@ -45,15 +49,14 @@ fn reply_with(
     solve(n, &table[0..k], &transitions[0..t], cover, out)
 }
 
-// How many bytes the output for a text has, which stand at the buffer's beginning. The buffer has room for every output: 22,543 bytes, a
-// head of 9, a count of 5, an end of line, and 2,048 lines of 11.
+// How many bytes the output for a text has, which stand at the buffer's beginning. The buffer has room for every output.
 pub fn reply(text: &[u8], out: &mut [u8]) -> usize
-    requires { ⌜ 22543 ≤ length (now out) ⌝ }
+    requires { ⌜ mostOutput ≤ length (now out) ⌝ }
     ensures { λ r. ⌜ Replied (now (text .entry)) (now (out .entry)) (now (out .exit)) (some r) ⌝ }
 {
     let mut table = [0u8; 4096];
-    let mut transitions = [0u16; 2048];
-    let mut cover = [0u8; 20480];
+    let mut transitions = [0u16; 4096 / 2];
+    let mut cover = [0u8; MOST_COVER];
     reply_with(text, &mut table, &mut transitions, &mut cover, out)
 }
 
@@ -61,7 +64,7 @@ pub fn reply(text: &[u8], out: &mut [u8]) -> usize
 pub fn answer(text: &[u8], out: &mut [u8]) -> Output
     ensures { λ r. ⌜ Replied (now (text .entry)) (now (out .entry)) (now (out .exit)) (writtenOf r) ⌝ }
 {
-    if out.len() < 22543 {
+    if out.len() < MOST_OUTPUT {
         return Output::NoRoom;
     }
     Output::Written(reply(text, out))

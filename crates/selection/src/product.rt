@@ -9,7 +9,7 @@ ghost use Rattle.cube.specs.Mask.{cubeOf, Clean};
 ghost use Rattle.cube.specs.Entry.{privilegedIn, CleanWord};
 ghost use Rattle.cube.specs.PointSet.{inSet};
 ghost use Rattle.points.specs.Ready.{Ready};
-ghost use Rattle.expand.specs.Columns.{Columns};
+ghost use Rattle.legality.specs.Columns.{Columns};
 ghost use Rattle.blocks.specs.Sets.{Fits};
 ghost use Rattle.selection.specs.Product.{Over, PrimeOver, MadeFor};
 use crate::near::near;

@@ -24,8 +24,7 @@ use Rattle.cube.specs.Entry.{CleanWord}
 use Rattle.cube.proofs.Points.{flip-xor}
 use Rattle.cube.proofs.ByWords.{lowest-bit}
 use Rattle.cube.proofs.Scan.{left}
-use Rattle.points.specs.PointWord.{WordOf, pointsIn, Below}
-use Rattle.points.specs.Turn.{masked}
+use Rattle.points.specs.PointWord.{WordOf, masked, pointsIn, Below}
 use Rattle.points.proofs.Walk.{Agrees, inWords, Visit, visit-word}
 use Rattle.points.proofs.Members.{ahead, ahead-word, ahead-start, ahead-more, ahead-end, points-count, points-none, points-more, cleared-less, cleared-below, lowest-below}
 use Rattle.sets.specs.Store.{Stored, Held, requiredTo, requiredFor, privilegedFor}

@@ -11,7 +11,7 @@ use cube::mask::span_of;
 use cube::point::next;
 use cube::word_mask::low_mask;
 use cube::word_mask::word_cube;
-use points::turn::last_points;
+use moves::turn::last_points;
 
 // How many labels [S,E] has.
 fn count_between(n: usize, table: &[u8], ones: &[u64], s: u16, e: u16) -> usize

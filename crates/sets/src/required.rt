@@ -20,7 +20,7 @@ use cube::mask::span_of;
 use cube::point::next;
 use cube::word_mask::low_mask;
 use cube::word_mask::word_cube;
-use points::turn::last_points;
+use moves::turn::last_points;
 
 // How many required cubes there are, by the points of value 1.
 pub fn count_by(n: usize, table: &[u8], transitions: &[u16], ones: &[u64]) -> usize

@@ -15,9 +15,9 @@ use columns::relation::Relation;
 use conditions::fault::Verdict;
 use conditions::fault::first_fault;
 use conditions::network::read_network;
-use expand::meeting::columns_into;
 use hazard::limits::MOST_PRODUCTS;
 use hazard::limits::MOST_REQUIRED;
+use legality::meeting::columns_into;
 use sets::sets::sets_into;
 
 // The problem's sets and the network's products are stored in the lent room with their columns, and the conditions are tried on them.

@@ -2,8 +2,7 @@ use mathlib.Core.Path.{_≡_, sym, subst}
 use mathlib.Core.Bool.{Bool}
 use Prim.Native.Nat.{ℕ}
 use Rattle.cube.specs.PointSet.{inSet}
-use Rattle.points.specs.PointWord.{WordOf}
-use Rattle.points.specs.Turn.{masked}
+use Rattle.points.specs.PointWord.{WordOf, masked}
 use Rattle.sets.specs.declared.kind.Kind.{Kind}
 use Rattle.sets.specs.Codes.{kindIs}
 use Rattle.checks.specs.Fault.{breaksIn}

@@ -13,7 +13,7 @@ use Rattle.hazard.specs.Verdict.{faultC}
 use Rattle.cube.specs.Entry.{privilegedIn, cubeIn, networkIn}
 use Rattle.cube.proofs.Scan.{Places, places-start, places-hit, places-miss, places-end}
 use Rattle.cube.proofs.Word.{stands-in}
-use Rattle.expand.specs.Answer.{metOf}
+use Rattle.legality.specs.Answer.{metOf}
 use Rattle.conditions.proofs.Looks.{product-read}
 use Rattle.conditions.proofs.fault.fault_c.Statement.{statement}
 use Rattle.conditions.proofs.fault.fault_c.Tie as tie

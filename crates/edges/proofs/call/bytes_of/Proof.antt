@@ -1,6 +1,7 @@
 use Prim.Native.Nat.{_≤_}
 use native.Mathlib.Nat.{mul-le-mul}
 use native.Mathlib.Omega.{arith}
+use Rattle.hazard.specs.Limits.{mostRequired}
 use borrow.Author.Needs.{needs}
 use Rattle.edges.proofs.call.bytes_of.Statement.{statement}
 use Rattle.edges.proofs.call.bytes_of.Tie as tie
@@ -15,7 +16,7 @@ mul-end : tie.Need-mul-end
 mul-end c =
     let a = c .before .before .args in
     let h : a .n ≤ 10 = omega arith in
-    let k : a .count ≤ 2048 = omega arith in
+    let k : a .count ≤ mostRequired = omega arith in
     search (needs, mul-le-mul h k)
 
 returns-3 : tie.Need-returns-3

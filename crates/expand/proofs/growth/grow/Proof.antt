@@ -10,7 +10,7 @@ use Rattle.cube.specs.Mask.{cubeOf, Clean}
 use Rattle.cube.specs.Entry.{privilegedIn}
 use Rattle.cube.specs.PointSet.{inSet}
 use Rattle.points.specs.Found.{foundOf}
-use Rattle.expand.specs.Answer.{metOf}
+use Rattle.legality.specs.Answer.{metOf}
 use Rattle.expand.proofs.Growing.{Growing, growing-start, growing-blocked, growing-legal, growing-step, growing-end}
 use Rattle.expand.proofs.growth.grow.Statement.{statement}
 use Rattle.expand.proofs.growth.grow.Tie as tie

@@ -7,9 +7,10 @@ use lib.Pow.{pow-mono}
 use Rattle.hazard.specs.Search.{those}
 use Rattle.hazard.specs.Sets.{maximalLabel}
 use Rattle.cube.specs.PointSet.{inSet}
-use Rattle.points.specs.Turn.{lasts}
 use Rattle.points.proofs.Walk.{Agrees, inWords, Visit, visit-start, visit-next}
-use Rattle.points.proofs.Agree.{stands-ten, agrees, lasts-agree}
+use Rattle.points.proofs.Agree.{stands-ten, agrees}
+use Rattle.moves.specs.Turn.{lasts}
+use Rattle.moves.proofs.Agree.{lasts-agree}
 use Rattle.sets.proofs.Gather.{Tally, tally-start, tally-more, tally-end, those-few}
 use borrow.Author.Needs.{needs}
 use Rattle.sets.proofs.label.count_between.Statement.{statement}

@@ -7,10 +7,11 @@ use Rattle.hazard.specs.Search.{those}
 use Rattle.hazard.specs.Sets.{maximalLabel}
 use Rattle.cube.specs.Entry.{requiredIn}
 use Rattle.cube.specs.PointSet.{inSet}
-use Rattle.points.specs.Turn.{lasts}
 use Rattle.points.proofs.Walk.{Agrees, inWords, Visit, visit-start, visit-word, visit-next}
-use Rattle.points.proofs.Agree.{stands-ten, agrees, lasts-agree}
+use Rattle.points.proofs.Agree.{stands-ten, agrees}
 use Rattle.points.proofs.Members.{below-of}
+use Rattle.moves.specs.Turn.{lasts}
+use Rattle.moves.proofs.Agree.{lasts-agree}
 use Rattle.sets.specs.Store.{requiredTo}
 use Rattle.sets.proofs.Gather.{Walked, walked-start, walked-room, walked-more, walked-end}
 use borrow.Author.Needs.{needs}

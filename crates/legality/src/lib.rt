@@ -1,0 +1,2 @@
+// Illegal intersections of a cube with the privileged cubes.
+pub mod meeting;

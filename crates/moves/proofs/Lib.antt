@@ -1,0 +1,4 @@
+pub mod FurtherWord
+pub mod Movement
+pub mod TurnWord
+pub mod Agree
