@@ -3,11 +3,13 @@ ghost use mathlib.Core.Path.{_≡_};
 ghost use mathlib.Core.List.{map};
 ghost use Prim.Native.Nat.{ℕ, _*_, _≤_};
 ghost use lib.ListN.{length, getD};
+ghost use Rattle.hazard.specs.Limits.{mostProducts};
 ghost use Rattle.hazard.specs.Verdict as spec;
 ghost use Rattle.cube.specs.Entry.{requiredIn, privilegedIn, CleanWord, networkIn};
 ghost use Rattle.cube.specs.PointSet.{inSet};
 ghost use Rattle.legality.specs.Columns.{Columns};
 ghost use Rattle.points.specs.Ready.{Ready};
+ghost use Rattle.blocks.specs.Sets.{Fits};
 ghost use Rattle.choice.specs.Rows.{Containing};
 ghost use Rattle.conditions.specs.Answer.{placeOf, unmetOf, verdictOf};
 use choice::cover::covers;
@@ -34,7 +36,7 @@ pub enum Unmet {
 
 // (a) by product and then point.
 fn fault_a(n: usize, off: &[u64], products: &[u64]) -> Place
-    requires { ⌜ Ready n (now off) × (length (now products) ≤ 2048) ⌝ }
+    requires { ⌜ Ready n (now off) × (length (now products) ≤ mostProducts) ⌝ }
     requires { ⌜ ((i : ℕ) → CleanWord n (getD (now products) i 0)) ⌝ }
     ensures { λ r. ⌜ placeOf r ≡ spec.faultA n (inSet (now (off .entry))) (networkIn n (now (products .entry))) ⌝ }
 {
@@ -50,7 +52,7 @@ fn fault_a(n: usize, off: &[u64], products: &[u64]) -> Place
 
 // (c) by product and then transition. `legal` are the columns of the privileged cubes.
 fn fault_c(n: usize, privileged: &[u64], legal: &[u64], products: &[u64]) -> Place
-    requires { ⌜ Columns n (now privileged) (now legal) × (length (now products) ≤ 2048) ⌝ }
+    requires { ⌜ Columns n (now privileged) (now legal) × (length (now products) ≤ mostProducts) ⌝ }
     requires { ⌜ ((i : ℕ) → CleanWord n (getD (now products) i 0)) ⌝ }
     ensures { λ r. ⌜ placeOf r ≡ spec.faultC (map (privilegedIn n) (now (privileged .entry))) (networkIn n (now (products .entry))) ⌝ }
 {
@@ -66,7 +68,7 @@ fn fault_c(n: usize, privileged: &[u64], legal: &[u64], products: &[u64]) -> Pla
 
 // (b) in the order of required cubes. The products are the rows of the columns; `rows` is room for a set of them.
 fn fault_b(n: usize, required: &[u64], products: &[u64], columns: &[u64], rows: &mut [u64]) -> Unmet
-    requires { ⌜ (n ≤ 10) × (length (now rows) ≤ 32) × (length (now products) ≤ 64 * length (now rows)) ⌝ }
+    requires { ⌜ (n ≤ 10) × Fits (now columns) (now rows) × (length (now products) ≤ 64 * length (now rows)) ⌝ }
     requires { ⌜ Containing n (now products) (now columns) ⌝ }
     ensures { λ r. ⌜ unmetOf n r ≡ spec.faultB (map (requiredIn n) (now (required .entry))) (networkIn n (now (products .entry))) ⌝ }
 {
@@ -105,9 +107,9 @@ pub fn first_fault(
     columns: &[u64],
     rows: &mut [u64],
 ) -> Verdict
-    requires { ⌜ Ready n (now off) × Columns n (now privileged) (now legal) × (length (now products) ≤ 2048) ⌝ }
+    requires { ⌜ Ready n (now off) × Columns n (now privileged) (now legal) × (length (now products) ≤ mostProducts) ⌝ }
     requires { ⌜ ((i : ℕ) → CleanWord n (getD (now products) i 0)) ⌝ }
-    requires { ⌜ (length (now rows) ≤ 32) × (length (now products) ≤ 64 * length (now rows)) × Containing n (now products) (now columns) ⌝ }
+    requires { ⌜ Fits (now columns) (now rows) × (length (now products) ≤ 64 * length (now rows)) × Containing n (now products) (now columns) ⌝ }
     ensures { λ r. ⌜ verdictOf r
         ≡ spec.firstFault (spec.faultA n (inSet (now (off .entry))) (networkIn n (now (products .entry))))
         (spec.faultC (map (privilegedIn n) (now (privileged .entry))) (networkIn n (now (products .entry))))

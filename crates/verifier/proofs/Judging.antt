@@ -15,7 +15,8 @@ use Rattle.cube.specs.Entry.{privilegedIn, requiredIn, CleanWord, cubeIn, netwo
 use Rattle.cube.specs.PointSet.{inSet}
 use Rattle.cube.proofs.Word.{taken-clean}
 use Rattle.sets.specs.Store.{StoredSets}
-use Rattle.conditions.specs.Network.{Sound, Read}
+use Rattle.blocks.specs.Sets.{Fits}
+use Rattle.conditions.specs.Network.{Read}
 use Rattle.hazard.proofs.Verdict.{products-length}
 
 -- A part from 0 has no more words than the whole.
@@ -30,8 +31,8 @@ module _ {n : ℕ} {bytes words : List ℕ} {m : ℕ} (read : Read n bytes words
   read-size = sym (length-take-le m words (read .low)) ∙ part-size
 
   -- The part of the words from 0 to m is handed on.
-  pub read-few : Sound n bytes → length (take (m - 0) words) ≤ 2048
-  read-few s = rw (sub-zero m, part-size) (s .few)
+  pub read-few : {b : ℕ} → length bytes / n ≤ b → length (take (m - 0) words) ≤ b
+  read-few l = rw (sub-zero m, part-size) l
 
   pub read-clean : (i : ℕ) → CleanWord n (getD (take (m - 0) words) i 0)
   read-clean = rw (sub-zero m) (taken-clean n m words (read .clean))
@@ -43,6 +44,9 @@ module _ {n : ℕ} {bytes words : List ℕ} {m : ℕ} (read : Read n bytes words
 
     rows-size : length (take ((m + 63) / 64 - 0) rows) ≡ (m + 63) / 64
     rows-size = rw (sub-zero ((m + 63) / 64)) (length-take-le ((m + 63) / 64) rows rows-low)
+
+    pub rows-fit : (columns filled : List ℕ) → Fits columns rows → length filled ≡ length columns → Fits filled (take ((m + 63) / 64 - 0) rows)
+    rows-fit columns filled f e = (omega (arith, rows-size, rows-low, f, e), omega (arith, rows-size, rows-low, f))
 
     pub rows-enough : length (take (m - 0) words) ≤ 64 * length (take ((m + 63) / 64 - 0) rows)
     rows-enough = rw (rows-size, sub-zero m, part-size) (omega (arith, read-size))

@@ -2,10 +2,12 @@
 ghost use mathlib.Core.Path.{_≡_};
 ghost use Prim.Native.Nat.{_*_, _/_, _≤_};
 ghost use lib.ListN.{length};
+ghost use Rattle.hazard.specs.Limits.{mostRequired, mostProducts};
 ghost use Rattle.hazard.specs.Sets as sets;
 ghost use Rattle.hazard.specs.Verdict as spec;
 ghost use Rattle.points.specs.Plane.{Plane};
 ghost use Rattle.sets.specs.Ready.{Ready};
+ghost use Rattle.blocks.specs.Sets.{Fits};
 ghost use Rattle.conditions.specs.Answer.{verdictOf};
 ghost use Rattle.conditions.specs.Network.{Sound};
 use blocks::fill::blocks_into;
@@ -13,6 +15,8 @@ use columns::relation::Relation;
 use conditions::fault::Verdict;
 use conditions::fault::first_fault;
 use conditions::network::read_network;
+use hazard::limits::MOST_PRODUCTS;
+use hazard::limits::MOST_REQUIRED;
 use legality::meeting::columns_into;
 use sets::sets::sets_into;
 
@@ -32,9 +36,9 @@ fn judge_with(
     columns: &mut [u64],
     rows: &mut [u64],
 ) -> Verdict
-    requires { ⌜ Ready n (now table) (now transitions) × (length (sets.required n (now table) (now transitions)) ≤ 2048) × Sound n (now network) ⌝ }
+    requires { ⌜ Ready n (now table) (now transitions) × (length (sets.required n (now table) (now transitions)) ≤ mostRequired) × Sound n (now network) ⌝ }
     requires { ⌜ Plane (now table) 0 (now off) × Plane (now table) 1 (now ones) × (length (now privileged) ≡ 64) × (length (sets.required n (now table) (now transitions)) ≤ length (now required)) × (length (now network) / n ≤ length (now products)) ⌝ }
-    requires { ⌜ (length (now legal) ≡ 60) × (length (now columns) ≡ 960) × (length (now rows) ≤ 32) × (length (now network) / n ≤ 64 * length (now rows)) ⌝ }
+    requires { ⌜ (length (now legal) ≡ 60) × Fits (now columns) (now rows) × (length (now network) / n ≤ 64 * length (now rows)) ⌝ }
     ensures { λ r. ⌜ verdictOf r ≡ spec.fault n (now (table .entry)) (now (transitions .entry)) (spec.products n (now (network .entry))) ⌝ }
 {
     let s = sets_into(n, table, transitions, off, ones, privileged, required);
@@ -74,7 +78,7 @@ fn judge_few(
     let mut legal = [0u64; 60];
     let mut required = [0u64; 64];
     let mut products = [0u64; 64];
-    let mut columns = [0u64; 960];
+    let mut columns = [0u64; 30];
     let mut rows = [0u64; 1];
     judge_with(
         n,
@@ -92,7 +96,7 @@ fn judge_few(
     )
 }
 
-// The first fault, with at most 2,048 required cubes and 2,048 products, in arrays of that size.
+// The first fault, with as many required cubes and products as there can be, in arrays of that size.
 fn judge_many(
     n: usize,
     table: &[u8],
@@ -101,16 +105,16 @@ fn judge_many(
     off: &[u64],
     ones: &[u64],
 ) -> Verdict
-    requires { ⌜ Ready n (now table) (now transitions) × (length (sets.required n (now table) (now transitions)) ≤ 2048) × Sound n (now network) × (length (now network) / n ≤ 2048) ⌝ }
+    requires { ⌜ Ready n (now table) (now transitions) × (length (sets.required n (now table) (now transitions)) ≤ mostRequired) × Sound n (now network) × (length (now network) / n ≤ mostProducts) ⌝ }
     requires { ⌜ Plane (now table) 0 (now off) × Plane (now table) 1 (now ones) ⌝ }
     ensures { λ r. ⌜ verdictOf r ≡ spec.fault n (now (table .entry)) (now (transitions .entry)) (spec.products n (now (network .entry))) ⌝ }
 {
     let mut privileged = [0u64; 64];
     let mut legal = [0u64; 60];
-    let mut required = [0u64; 2048];
-    let mut products = [0u64; 2048];
-    let mut columns = [0u64; 960];
-    let mut rows = [0u64; 32];
+    let mut required = [0u64; MOST_REQUIRED];
+    let mut products = [0u64; MOST_PRODUCTS];
+    let mut columns = [0u64; 30 * ((MOST_PRODUCTS + 63) / 64)];
+    let mut rows = [0u64; (MOST_PRODUCTS + 63) / 64];
     judge_with(
         n,
         table,
@@ -137,7 +141,7 @@ pub fn judge(
     ones: &[u64],
     count: usize,
 ) -> Verdict
-    requires { ⌜ Ready n (now table) (now transitions) × (length (sets.required n (now table) (now transitions)) ≤ 2048) × Sound n (now network) ⌝ }
+    requires { ⌜ Ready n (now table) (now transitions) × (length (sets.required n (now table) (now transitions)) ≤ mostRequired) × Sound n (now network) ⌝ }
     requires { ⌜ Plane (now table) 0 (now off) × Plane (now table) 1 (now ones) × (count ≡ length (sets.required n (now table) (now transitions))) ⌝ }
     ensures { λ r. ⌜ verdictOf r ≡ spec.fault n (now (table .entry)) (now (transitions .entry)) (spec.products n (now (network .entry))) ⌝ }
 {

@@ -1,7 +1,7 @@
 use native.Mathlib.Omega.{arith}
 use Rattle.sets.proofs.Parts.{parts}
 use Rattle.points.proofs.Ready.{words-ready}
-use Rattle.verifier.proofs.Judging.{part-few, read-size, read-few, read-clean, rows-enough, judged}
+use Rattle.verifier.proofs.Judging.{part-few, read-size, read-few, read-clean, rows-fit, rows-enough, judged}
 use borrow.Author.Needs.{needs}
 use Rattle.verifier.proofs.judge.judge_with.Statement.{statement}
 use Rattle.verifier.proofs.judge.judge_with.Tie as tie
@@ -41,7 +41,7 @@ part-blocks-into-end c = search needs
 blocks-into-requires : tie.Need-blocks-into-requires
 blocks-into-requires c κs =
     let s = c .before .before .before .before .before .before .before .before .before .before .before .before .before .before .before .before .before .before .before .before .before .before .before .before .before .before .before .before .before .before .before in
-    (read-few (c .before .before .before .before .before .before .before .before .before .before .before .read-network .ensures) (s .pre .0 .2), s .pre .0 .2 .small, s .pre .1 .1 .1)
+    (s .pre .0 .2 .small, omega (arith, read-few (c .before .before .before .before .before .before .before .before .before .before .before .read-network .ensures) (s .pre .1 .1 .2), s .pre .1 .1 .1))
 
 add-b : tie.Need-add-b
 add-b c =
@@ -84,16 +84,16 @@ part-first-fault-start-4 c = search needs
 part-first-fault-end-4 : tie.Need-part-first-fault-end-4
 part-first-fault-end-4 c =
     let s = c .before .before .before .before .before .before .before .before .before .before .before .before .before .before .before .before .before .before .before .before .before .before .before .before .before .before .before .before .before .before .before .before .before .before .before .before .before .before .before .before .before .before in
-    search (needs, read-size (c .before .before .before .before .before .before .before .before .before .before .before .before .before .before .before .before .before .before .before .before .before .before .read-network .ensures), s .pre .1 .1 .3)
+    search (needs, read-size (c .before .before .before .before .before .before .before .before .before .before .before .before .before .before .before .before .before .before .before .before .before .before .read-network .ensures), s .pre .1 .1 .2)
 
 first-fault-requires : tie.Need-first-fault-requires
 first-fault-requires c κs =
     let s = c .before .before .before .before .before .before .before .before .before .before .before .before .before .before .before .before .before .before .before .before .before .before .before .before .before .before .before .before .before .before .before .before .before .before .before .before .before .before .before .before .before .before .before in
     let r = c .before .before .before .before .before .before .before .before .before .before .before .before .before .before .before .before .before .before .before .before .before .before .before .read-network .ensures in
     let rows = s .args .rows .now in
-    let few = part-few rows 32 (s .pre .1 .1 .2) in (
-      (words-ready (s .pre .0 .2 .small) (s .pre .1 .0 .0 .long), c .before .before .before .before .before .before .before .before .before .before .before .before .before .before .before .before .before .columns-into .ensures, read-few r (s .pre .0 .2)),
-      (read-clean r, (search few, rows-enough r rows (s .pre .1 .1 .3), c .before .before .before .before .before .before .before .before .before .before .before .blocks-into .ensures)),
+    let b = c .before .before .before .before .before .before .before .before .before .before .before .blocks-into in (
+      (words-ready (s .pre .0 .2 .small) (s .pre .1 .0 .0 .long), c .before .before .before .before .before .before .before .before .before .before .before .before .before .before .before .before .before .columns-into .ensures, read-few r (s .pre .0 .2 .few)),
+      (read-clean r, (rows-fit r rows (s .pre .1 .1 .2) (s .args .columns .now) (b .last .1 .1 .1 .0) (s .pre .1 .1 .1) (b .kept .1 .1 .1 .0), rows-enough r rows (s .pre .1 .1 .2), b .ensures)),
     )
 
 same-length : tie.Need-same-length
