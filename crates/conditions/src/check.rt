@@ -21,10 +21,10 @@ pub fn check_products(n: usize, bytes: &[u8]) -> Checked
     if bytes.len() % n != 0 {
         return refused(11, 0, 0);
     }
-    if MOST_PRODUCTS < bytes.len() / n {
-        return refused(11, 0, 0);
+    if bytes.len() / n <= MOST_PRODUCTS {
+        return Checked::Accepted;
     }
-    Checked::Accepted
+    refused(11, 0, 0)
 }
 
 // Some byte of the product that starts at a place is above 2.
