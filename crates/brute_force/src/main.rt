@@ -8,7 +8,7 @@ mod minimising;
 mod network;
 mod required;
 mod samples;
-mod sets;
+mod trying;
 mod verifying;
 mod wires;
 

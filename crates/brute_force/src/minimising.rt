@@ -31,7 +31,7 @@ use crate::network::Network;
 use crate::network::product_at;
 use crate::network::without;
 use crate::required::names_blocked;
-use crate::sets::some_hazard_free;
+use crate::trying::some_hazard_free;
 use crate::verifying::passes;
 use crate::verifying::same_refusal;
 use crate::wires::Found;

@@ -22,7 +22,7 @@ use crate::network::product_of;
 use crate::network::push;
 use crate::network::spread;
 use crate::network::without;
-use crate::sets::holds_no_zero;
+use crate::trying::holds_no_zero;
 use crate::verifying::refuses;
 use crate::verifying::verifies;
 

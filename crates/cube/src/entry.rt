@@ -1,4 +1,4 @@
-// A cube with a transition and a point, packed into one word: 2,048 required cubes then stand in one lent array.
+// A cube with a transition and a point, packed into one word: all required cubes then stand in one lent array.
 ghost use mathlib.Core.Path.{_≡_};
 ghost use Rattle.cube.specs.Entry.{transitionIn, pointIn, careIn, valueIn, Packed};
 use crate::mask::Cube;

@@ -1,7 +1,7 @@
 use Prim.Native.Nat.{_-_, _≤_}
 use borrow.Author.Needs.{needs}
-use Rattle.brute_force.proofs.sets.with_three.Statement.{statement}
-use Rattle.brute_force.proofs.sets.with_three.Tie as tie
+use Rattle.brute_force.proofs.trying.with_three.Statement.{statement}
+use Rattle.brute_force.proofs.trying.with_three.Tie as tie
 
 abbrev Inv-loop : tie.InvT-loop
 Inv-loop p net codes from count counts₀ i₀ counts i = i₀ ≤ i

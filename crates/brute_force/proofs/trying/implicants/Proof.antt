@@ -1,7 +1,7 @@
 use Prim.Native.Nat.{_-_, _≤_}
 use borrow.Author.Needs.{needs}
-use Rattle.brute_force.proofs.sets.implicants.Statement.{statement}
-use Rattle.brute_force.proofs.sets.implicants.Tie as tie
+use Rattle.brute_force.proofs.trying.implicants.Statement.{statement}
+use Rattle.brute_force.proofs.trying.implicants.Tie as tie
 
 abbrev Inv-loop : tie.InvT-loop
 Inv-loop p list₀ code₀ code-end list code = code₀ ≤ code

@@ -1,7 +1,7 @@
 use Prim.Native.Nat.{_-_, _≤_}
 use borrow.Author.Needs.{needs}
-use Rattle.brute_force.proofs.sets.with_one.Statement.{statement}
-use Rattle.brute_force.proofs.sets.with_one.Tie as tie
+use Rattle.brute_force.proofs.trying.with_four.Statement.{statement}
+use Rattle.brute_force.proofs.trying.with_four.Tie as tie
 
 abbrev Inv-loop : tie.InvT-loop
 Inv-loop p net codes from count counts₀ i₀ counts i = i₀ ≤ i
@@ -21,6 +21,15 @@ is-hazard-free-requires c κs = search needs
 returns : tie.Need-returns Inv-loop μ-loop
 returns c = search needs
 
+add-with-three : tie.Need-add-with-three Inv-loop μ-loop
+add-with-three c = search needs
+
+with-three-requires : tie.Need-with-three-requires Inv-loop μ-loop
+with-three-requires c κs = search needs
+
+returns-2 : tie.Need-returns-2 Inv-loop μ-loop
+returns-2 c = search needs
+
 add-i : tie.Need-add-i Inv-loop μ-loop
 add-i c = search needs
 
@@ -30,11 +39,11 @@ loop-less c = search needs
 loop-again : tie.Need-loop-again Inv-loop μ-loop
 loop-again c = search needs
 
-returns-2 : tie.Need-returns-2 Inv-loop μ-loop
-returns-2 c = search needs
+returns-3 : tie.Need-returns-3 Inv-loop μ-loop
+returns-3 c = search needs
 
-pub with-one-spec : {M : Type 1} → statement M
-with-one-spec =
+pub with-four-spec : {M : Type 1} → statement M
+with-four-spec =
     tie.close
     (tie.spec
     Inv-loop
@@ -43,7 +52,10 @@ with-one-spec =
     with-product-requires
     is-hazard-free-requires
     returns
+    add-with-three
+    with-three-requires
+    returns-2
     add-i
     loop-less
     loop-again
-    returns-2)
+    returns-3)

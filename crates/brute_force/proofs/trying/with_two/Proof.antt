@@ -1,7 +1,7 @@
 use Prim.Native.Nat.{_-_, _≤_}
 use borrow.Author.Needs.{needs}
-use Rattle.brute_force.proofs.sets.with_four.Statement.{statement}
-use Rattle.brute_force.proofs.sets.with_four.Tie as tie
+use Rattle.brute_force.proofs.trying.with_two.Statement.{statement}
+use Rattle.brute_force.proofs.trying.with_two.Tie as tie
 
 abbrev Inv-loop : tie.InvT-loop
 Inv-loop p net codes from count counts₀ i₀ counts i = i₀ ≤ i
@@ -21,11 +21,11 @@ is-hazard-free-requires c κs = search needs
 returns : tie.Need-returns Inv-loop μ-loop
 returns c = search needs
 
-add-with-three : tie.Need-add-with-three Inv-loop μ-loop
-add-with-three c = search needs
+add-with-one : tie.Need-add-with-one Inv-loop μ-loop
+add-with-one c = search needs
 
-with-three-requires : tie.Need-with-three-requires Inv-loop μ-loop
-with-three-requires c κs = search needs
+with-one-requires : tie.Need-with-one-requires Inv-loop μ-loop
+with-one-requires c κs = search needs
 
 returns-2 : tie.Need-returns-2 Inv-loop μ-loop
 returns-2 c = search needs
@@ -42,8 +42,8 @@ loop-again c = search needs
 returns-3 : tie.Need-returns-3 Inv-loop μ-loop
 returns-3 c = search needs
 
-pub with-four-spec : {M : Type 1} → statement M
-with-four-spec =
+pub with-two-spec : {M : Type 1} → statement M
+with-two-spec =
     tie.close
     (tie.spec
     Inv-loop
@@ -52,8 +52,8 @@ with-four-spec =
     with-product-requires
     is-hazard-free-requires
     returns
-    add-with-three
-    with-three-requires
+    add-with-one
+    with-one-requires
     returns-2
     add-i
     loop-less
