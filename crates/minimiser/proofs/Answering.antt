@@ -7,7 +7,7 @@ use native.Mathlib.Nat.{mul-comm, mul-le-mul, not-le-of-lt}
 use native.Mathlib.Omega.{arith}
 use lib.Dec.{ltb, lt→ltb, ltb→lt}
 use lib.ListN.{length, take, drop, length-map}
-use Rattle.hazard.specs.Limits.{mostRequired}
+use Rattle.hazard.specs.Limits.{mostRequired, mostCover}
 use Rattle.hazard.specs.Search.{firstOf}
 use Rattle.hazard.specs.Transition as transition
 use Rattle.hazard.specs.Sets as sets
@@ -81,5 +81,5 @@ module _ (n : ℕ) (f ts before : List ℕ) where
             (minimal n f ts ok (s .net) (s .primes) (s .covers) (s .own) (s .few)) (s .is ∙ ap (λ (z : ℕ). bytesOf (s .net) ++ drop z before) (mul-comm (length (s .net)) n)))
 
     -- The bytes that are asked for are few.
-    pub bytes-few : (count : ℕ) → count ≡ length (sets.required n f ts) → n * count ≤ 10 * mostRequired
+    pub bytes-few : (count : ℕ) → count ≡ length (sets.required n f ts) → n * count ≤ mostCover
     bytes-few count e = let l : count ≤ mostRequired = omega (arith, e, required-few n f ts ok) in mul-le-mul (few-inputs n f ts ok .1) l
