@@ -1,7 +1,6 @@
 // The words of the columns: for each input and digit a run, with one word for each block.
 ghost use mathlib.Core.Path.{_≡_};
 ghost use Prim.Native.Nat.{_*_, _^_, _<_};
-ghost use lib.ListN.{length};
 ghost use Rattle.blocks.specs.Blocks.{stride, runOf, wordAt};
 
 // How many words a run has: as many as there are blocks that the columns have room for.

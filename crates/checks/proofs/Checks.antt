@@ -8,7 +8,6 @@ use native.Mathlib.Decide.{ℕ-discrete, decLt}
 use lib.ListN.{length, getD, List·getD-eq-default}
 use lib.Pow.{pow-pos, pow-mono}
 use Rattle.hazard.specs.Search.{firstOf}
-use Rattle.hazard.specs.Transition.{start, end, count}
 use Rattle.hazard.specs.Refusal as spec
 use Rattle.hazard.specs.Sets.{required}
 use Rattle.hazard.proofs.Search.{firstOf-none, entries, firstOf-append}

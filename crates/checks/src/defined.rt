@@ -1,6 +1,5 @@
 // Check 6, by the set of the don't cares.
 ghost use mathlib.Core.Path.{_≡_};
-ghost use Prim.Native.Nat.{_≤_};
 ghost use lib.ListN.{length};
 ghost use Rattle.cube.specs.PointSet.{inSet};
 ghost use Rattle.sets.specs.Ready.{Listed};

@@ -1,5 +1,4 @@
 // Check 8.
-ghost use mathlib.Core.Path.{_≡_};
 ghost use Rattle.hazard.specs.Refusal.{manyCheck};
 ghost use Rattle.points.specs.Plane.{Plane};
 ghost use Rattle.sets.specs.Ready.{Ready};

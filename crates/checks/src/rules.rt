@@ -3,7 +3,6 @@
 ghost use mathlib.Core.Path.{_≡_};
 ghost use Prim.Native.Nat.{_≤_, _<_, _^_};
 ghost use lib.ListN.{length};
-ghost use Rattle.hazard.specs.Transition.{functionHazardAt};
 ghost use Rattle.hazard.specs.Refusal.{rulesCheck};
 ghost use Rattle.cube.specs.PointSet.{inSet};
 ghost use Rattle.points.specs.PointWord.{WordOf, PointsOf, masked};

@@ -1,5 +1,4 @@
 // A network's products as packed words.
-ghost use mathlib.Core.Path.{_≡_};
 ghost use Prim.Native.Nat.{_/_, _≤_};
 ghost use lib.ListN.{length};
 ghost use Rattle.conditions.specs.Network.{Sound, Read};

@@ -8,7 +8,7 @@ use Prim.Native.Nat.{ℕ, zero, suc, _+_, _*_, _%_, _^_, _≤_, _<_}
 use native.Mathlib.Omega.{arith}
 use native.Mathlib.Decide.{ℕ-discrete, decLt}
 use lib.Dec.{T, eqb, leb, ltb, le→leb, lt→ltb}
-use lib.ListN.{length, getD, List·getD-eq-default}
+use lib.ListN.{length, List·getD-eq-default}
 use Rattle.hazard.specs.Limits.{mostRequired}
 use Rattle.hazard.specs.Search.{first, firstPlace}
 use Rattle.hazard.specs.Cube.{has, span}

@@ -9,7 +9,6 @@ use native.Mathlib.Omega.{arith}
 use native.Mathlib.Bridge.{le-prop}
 use native.Mathlib.Decide.{ℕ-discrete}
 use lib.Dec.{T}
-use lib.ListN.{getD}
 use Rattle.hazard.specs.Search.{found, first, those, firstPlace, find, firstOf}
 use Rattle.hazard.proofs.Test.{so, so-not}
 
