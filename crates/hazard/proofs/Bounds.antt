@@ -15,9 +15,9 @@ use Rattle.hazard.specs.Transition.{value, off, start, end, count, Kind,
 use Rattle.hazard.specs.Sets.{Required, Privileged, labels, maximalLabel, kindAt, required, privileged}
 use Rattle.hazard.specs.Growth.{Growth, Legal, Blocked, steps, grow}
 use Rattle.hazard.specs.Cover.{Network, productAt}
-use Rattle.hazard.specs.Refusal.{Refusal, refusal, productRefusal, refuseIf, inputChecks, Accepted}
+use Rattle.hazard.specs.Refusal.{Refusal, refusal, productRefusal, refuseIf, inputsCheck, lengthCheck, bytesCheck, listCheck, endsCheck, definedCheck, rulesCheck, manyCheck, inputChecks, Accepted}
 use Rattle.hazard.specs.Verdict.{products, productsCheck, digitsCheck, networkChecks, verifierChecks, Verdict, refused, fault, verdict, Fields, fieldsOf}
-use Rattle.hazard.specs.Minimal.{blockedBy, blockCheck, blocking, minimiserChecks, Minimal}
+use Rattle.hazard.specs.Minimal.{blockedBy, blockCheck, roomCheck, blocking, minimiserChecks, Minimal}
 use Rattle.hazard.proofs.Search.{none-some, first-some, place-some, those-e, firstOf-none, entries, firstOf-append, firstOf-some}
 use Rattle.hazard.proofs.Rules.{inputs-few, length-whole, list-few, few-inputs, list-length, points, required-few}
 use Rattle.hazard.proofs.Sets.{required-e, required-digits, privileged-e, privileged-wide}
@@ -125,29 +125,69 @@ place-bounds {most} {size} {all} p few small k a b test =
     let (l, m, h) = place-some (λ t. first (test t) 0 all) 0 size s in
     named p a b (omega arith) (omega (arith, first-some (test (i .0)) 0 all h .1)))
 
+-- What a check finds is bounded: a law for each check, by its name.
+abbrev Finds : ℕ → Option Refusal → Type 0
+Finds most o = (q : Refusal) → o ≡ some q → Bounded most q
+
+module _ {most : ℕ} (p : 1 ≤ most) (n : ℕ) where
+  inputs-bounds : Finds most (inputsCheck n)
+  inputs-bounds = test-bounds p (eqb n 0 || ltb 10 n) 1 (omega arith) (omega arith)
+
+  length-bounds : (f : List ℕ) → Finds most (lengthCheck n f)
+  length-bounds f = test-bounds p (not (eqb (length f) (2 ^ n))) 2 (omega arith) (omega arith)
+
+  bytes-bounds : (f : List ℕ) → length f ≤ 1024 → Finds most (bytesCheck f)
+  bytes-bounds f all = search-bounds (λ x. refusal 3 0 x) (first (λ x. ltb 2 (value f x)) 0 (length f)) (λ x s.
+      named p (omega arith) (omega arith) (omega arith) (omega (arith, first-some (λ x. ltb 2 (value f x)) 0 (length f) s .1)))
+
+  list-bounds : (ts : List ℕ) → Finds most (listCheck ts)
+  list-bounds ts = test-bounds p (eqb (length ts) 0 || (eqb (length ts % 2) 1 || ltb 64 (count ts))) 4 (omega arith) (omega arith)
+
+  ends-bounds : (ts : List ℕ) → count ts ≤ 64 → Finds most (endsCheck n ts)
+  ends-bounds ts few = search-bounds (λ k. refusal 5 k 0) (first (λ k. leb (2 ^ n) (start ts k) || leb (2 ^ n) (end ts k)) 0 (count ts)) (λ k s.
+      named p (omega arith) (omega arith) (omega (arith, first-some (λ k. leb (2 ^ n) (start ts k) || leb (2 ^ n) (end ts k)) 0 (count ts) s .1)) (omega arith))
+
+  defined-bounds : (f ts : List ℕ) → n ≤ 10 → count ts ≤ 64 → Finds most (definedCheck n f ts)
+  defined-bounds f ts small few = place-bounds p few (points-few small) 6 (omega arith) (omega arith) (λ k x. has (span n (start ts k) (end ts k)) x && eqb (value f x) 2)
+
+  rules-bounds : (f ts : List ℕ) → n ≤ 10 → count ts ≤ 64 → Finds most (rulesCheck n f ts)
+  rules-bounds f ts small few = place-bounds p few (points-few small) 7 (omega arith) (omega arith) (λ k x. has (span n (start ts k) (end ts k)) x && functionHazard n f (kind f (start ts k) (end ts k)) (start ts k) (end ts k) x)
+
+  many-bounds : (f ts : List ℕ) → Finds most (manyCheck n f ts)
+  many-bounds f ts = test-bounds p (ltb mostRequired (length (required n f ts))) 8 (omega arith) (omega arith)
+
+  room-bounds : (f ts : List ℕ) (room : ℕ) → Finds most (roomCheck n f ts room)
+  room-bounds f ts room = test-bounds p (ltb room (n * length (required n f ts))) 9 (omega arith) (omega arith)
+
+  products-bounds : (bytes : List ℕ) → Finds most (productsCheck n bytes)
+  products-bounds bytes = test-bounds p (not (eqb (length bytes % n) 0) || ltb mostProducts (length bytes / n)) 11 (omega arith) (omega arith)
+
+digits-bounds : (n : ℕ) (net : Network) → length net ≤ mostProducts → Finds mostProducts (digitsCheck n net)
+digits-bounds n net few = search-bounds (λ j. productRefusal 12 j) (first (λ j. not (isProduct n (productAt net j))) 0 (length net)) (λ j s.
+    let b : j < mostProducts = omega (arith, first-some (λ j. not (isProduct n (productAt net j))) 0 (length net) s .1) in
+    record { number-low = omega arith; number = omega arith; transition = omega arith; point = omega arith; steps = omega arith; lowest = omega arith; product = b })
+
 module _ (n : ℕ) (f ts : List ℕ) where
-  -- The input rules.
+  -- The input rules, each where those before it find nothing.
   input-bounds : {most : ℕ} → 1 ≤ most → Each (Bounded most) (inputChecks n f ts)
   input-bounds p =
-      next (test-bounds p (eqb n 0 || ltb 10 n) 1 (omega arith) (omega arith)) (λ c1.
-      next (test-bounds p (not (eqb (length f) (2 ^ n))) 2 (omega arith) (omega arith)) (λ c2.
-      let all = points-few (inputs-few n c1 .1) in
-      next (search-bounds (λ x. refusal 3 0 x) (first (λ x. ltb 2 (value f x)) 0 (length f)) (λ x s.
-      named p (omega arith) (omega arith) (omega arith) (omega (arith, first-some (λ x. ltb 2 (value f x)) 0 (length f) s .1, length-whole n f c2)))) (λ c3.
-      next (test-bounds p (eqb (length ts) 0 || (eqb (length ts % 2) 1 || ltb 64 (count ts))) 4 (omega arith) (omega arith)) (λ c4.
+      next (inputs-bounds p n) (λ c1.
+      let small = inputs-few n c1 .1 in
+      next (length-bounds p n f) (λ c2.
+      next (bytes-bounds p n f (omega (arith, length-whole n f c2, points-few small))) (λ c3.
+      next (list-bounds p n ts) (λ c4.
       let few = list-few ts c4 .2 in
-      next (search-bounds (λ k. refusal 5 k 0) (first (λ k. leb (2 ^ n) (start ts k) || leb (2 ^ n) (end ts k)) 0 (count ts)) (λ k s.
-      named p (omega arith) (omega arith) (omega (arith, first-some (λ k. leb (2 ^ n) (start ts k) || leb (2 ^ n) (end ts k)) 0 (count ts) s .1)) (omega arith))) (λ c5.
-      next (place-bounds p few all 6 (omega arith) (omega arith) (λ k x. has (span n (start ts k) (end ts k)) x && eqb (value f x) 2)) (λ c6.
-      next (place-bounds p few all 7 (omega arith) (omega arith) (λ k x. has (span n (start ts k) (end ts k)) x && functionHazard n f (kind f (start ts k) (end ts k)) (start ts k) (end ts k) x)) (λ c7.
-      next (test-bounds p (ltb mostRequired (length (required n f ts))) 8 (omega arith) (omega arith)) (λ c8. tried))))))))
+      next (ends-bounds p n ts few) (λ c5.
+      next (defined-bounds p n f ts small few) (λ c6.
+      next (rules-bounds p n f ts small few) (λ c7.
+      next (many-bounds p n f ts) (λ c8. tried))))))))
 
   -- A refusal of the minimiser.
   pub minimiser-bounds : (room : ℕ) {q : Refusal} → firstOf (minimiserChecks n f ts room) ≡ some q → Bounded 1 q
   minimiser-bounds room e =
       each-first (Bounded 1)
       (each-append (Bounded 1) (input-bounds (omega arith)) (λ a.
-      next (test-bounds (omega arith) (ltb room (n * length (required n f ts))) 9 (omega arith) (omega arith)) (λ c9. next (blocked-bounds n f ts a) (λ c10. tried)))) e
+      next (room-bounds (omega arith) n f ts room) (λ c9. next (blocked-bounds n f ts a) (λ c10. tried)))) e
 
   module _ (bytes : List ℕ) where
     -- What check 11 lets through has no more products than the limit.
@@ -159,14 +199,7 @@ module _ (n : ℕ) (f ts : List ℕ) where
     verifier-bounds e =
         each-first (Bounded mostProducts)
         (each-append (Bounded mostProducts) (input-bounds (omega arith)) (λ a.
-        next (test-bounds (omega arith) (not (eqb (length bytes % n) 0) || ltb mostProducts (length bytes / n)) 11 (omega arith) (omega arith)) (λ c11. next (digit c11) (λ c12. tried)))) e
-      where
-        digit : productsCheck n bytes ≡ none → (q : Refusal) → digitsCheck n (products n bytes) ≡ some q → Bounded mostProducts q
-        digit c =
-            search-bounds (λ j. productRefusal 12 j)
-            (first (λ j. not (isProduct n (productAt (products n bytes) j))) 0 (length (products n bytes))) (λ j s.
-            let b : j < mostProducts = omega (arith, first-some (λ j. not (isProduct n (productAt (products n bytes) j))) 0 (length (products n bytes)) s .1, products-few c) in
-            record { number-low = omega arith; number = omega arith; transition = omega arith; point = omega arith; steps = omega arith; lowest = omega arith; product = b })
+        next (products-bounds (omega arith) n bytes) (λ c11. next (digits-bounds n (products n bytes) (products-few c11)) (λ c12. tried)))) e
 
     -- Every verdict, of refused input too.
     pub verdict-bounds : BoundedFields (fieldsOf (verdict n f ts bytes))
