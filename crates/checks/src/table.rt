@@ -1,6 +1,6 @@
 // Checks 2 and 3: the table by itself.
 ghost use mathlib.Core.Path.{_≡_};
-ghost use Prim.Native.Nat.{_≤_, _^_};
+ghost use Prim.Native.Nat.{_≤_};
 ghost use lib.ListN.{length};
 ghost use Rattle.hazard.specs.Search.{firstOf};
 ghost use Rattle.hazard.specs.Refusal.{lengthCheck, bytesCheck, tableChecks};

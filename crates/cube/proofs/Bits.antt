@@ -1,16 +1,15 @@
 -- The bit operations, bit by bit.
-use mathlib.Core.Path.{_≡_, refl, sym, ap, ap₂, _∙_, subst}
+use mathlib.Core.Path.{_≡_, refl, sym, ap, _∙_}
 use mathlib.Core.Logic.{_≢_}
-use mathlib.Core.Bool.{Bool, true, false, _&&_}
-use mathlib.Core.List.{List, [], _∷_}
-use Prim.Native.Nat.{ℕ, zero, suc, _+_, _-_, _*_, _/_, _%_, _^_, _≤_, _<_, min, max}
-use native.Mathlib.Nat.{mod-lt, mod-eq-of-lt, one-mul, pow-suc, lt-of-le-of-lt}
+use mathlib.Core.Bool.{Bool, false, _&&_}
+use Prim.Native.Nat.{ℕ, zero, suc, _+_, _-_, _*_, _/_, _%_, _^_, _<_}
+use native.Mathlib.Nat.{mod-lt, mod-eq-of-lt, one-mul, pow-suc}
 use native.Mathlib.Decide.{ℕ-discrete}
 use native.Mathlib.Omega.{arith}
-use lib.Dec.{T, eqb}
-use lib.Arith.{lt-one, bin-ind}
-use lib.Bits.{bitAnd, bitOr, bitXor, and-zero-r, and-zero-l, and-shr, and-mod, or-shr, or-mod, xor-shr, xor-mod, and-le-l, and-le-r, xor-lt}
-use lib.Pow.{pow-pos, pow-lt}
+use lib.Dec.{eqb}
+use lib.Arith.{bin-ind}
+use lib.Bits.{bitAnd, bitOr, bitXor, and-shr, and-mod, or-shr, or-mod, xor-shr, xor-mod}
+use lib.Pow.{pow-lt}
 use borrow.Author.Tests.{ne-eqb}
 
 -- What holds of 0 and of 1 holds of every binary digit.

@@ -13,7 +13,7 @@ use lib.Arith.{lt-one}
 use lib.Count.{under, trailingZeros}
 use lib.Pow.{shr-shr}
 use Rattle.hazard.specs.Cube.{bit, has}
-use Rattle.hazard.proofs.Test.{is, so, so-not}
+use Rattle.hazard.proofs.Test.{so, so-not}
 use Rattle.hazard.proofs.Search.{First, nowhere, lowest, first-is, none-first}
 use Rattle.hazard.specs.Search.{first}
 use Rattle.cube.specs.Mask.{cubeOf, Clean}

@@ -1,14 +1,14 @@
 -- A cube's digits, one by one, as the bytes of a product.
 use mathlib.Core.Path.{_≡_, refl, sym, ap, ap₂, _∙_}
-use mathlib.Core.List.{List, [], _∷_}
-use Prim.Native.Nat.{ℕ, zero, suc, _+_, _-_, _*_, _/_, _%_, _^_, _≤_, _<_}
-use native.Mathlib.Nat.{pow-suc, le-of-suc-le-suc, not-suc-le-zero, div-one, sub-self}
+use mathlib.Core.List.{List, _∷_}
+use Prim.Native.Nat.{ℕ, zero, suc, _+_, _-_, _/_, _%_, _^_, _≤_, _<_}
+use native.Mathlib.Nat.{pow-suc, le-of-suc-le-suc, not-suc-le-zero, sub-self}
 use native.Mathlib.Numerals.{add-one}
 use native.Mathlib.Omega.{arith}
 use lib.ListN.{length, getD, take, drop, length-take, length-drop, drop-of-length-le, set}
 use lib.Seq.{drop-cons, getD-take, getD-drop, paste, paste-suc}
 use lib.Bits.{bitAnd, and-le-r}
-use lib.Pow.{shr-shr, pow-pos, pow-mono}
+use lib.Pow.{pow-pos, pow-mono}
 use Rattle.hazard.specs.Cube.{bit}
 use Rattle.hazard.proofs.Point.{bit-zero, bit-suc}
 use Rattle.cube.specs.Mask.{digit, digitsOf, Stands}

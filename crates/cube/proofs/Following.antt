@@ -10,7 +10,7 @@ use lib.Arith.{lt-one}
 use lib.Bits.{bitAnd, bitOr, bitXor, or-step, and-zero-r}
 use Rattle.hazard.specs.Cube.{has}
 use Rattle.hazard.proofs.Digit.{Fits, top, same}
-use Rattle.hazard.proofs.Cube.{Has, nil, cons, has→, →has}
+use Rattle.hazard.proofs.Cube.{Has, cons, has→, →has}
 use Rattle.cube.specs.Mask.{digit, digitsOf}
 use Rattle.cube.specs.Next.{Next}
 use Rattle.cube.proofs.Bits.{bit-case3, halves, lasts, half-lt, by-digits, and-half, and-last}

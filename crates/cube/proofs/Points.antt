@@ -1,7 +1,7 @@
 -- One input moved, by xor.
 use mathlib.Core.Path.{_≡_, refl, sym, ap, _∙_}
 use mathlib.Core.Bool.{Bool, true, false, cond}
-use Prim.Native.Nat.{ℕ, _+_, _-_, _*_, _/_, _^_, _<_}
+use Prim.Native.Nat.{ℕ, _+_, _-_, _*_, _/_, _^_}
 use native.Mathlib.Nat.{mod-lt, one-mul, zero-mul}
 use native.Mathlib.Omega.{arith}
 use lib.Dec.{eqb}

@@ -1,11 +1,11 @@
 -- The cube of a packed word.
-use mathlib.Core.Path.{_≡_, refl, sym, ap₂, _∙_, subst}
+use mathlib.Core.Path.{_≡_, refl, ap₂, _∙_}
 use mathlib.Core.List.{List}
-use Prim.Native.Nat.{ℕ, _≤_, _<_, _^_}
+use Prim.Native.Nat.{ℕ, _<_, _^_}
 use native.Mathlib.Decide.{decLt}
 use native.Mathlib.Omega.{arith}
 use lib.Pow.{pow-pos}
-use lib.ListN.{length, getD, take, length-take, List·getD-eq-default}
+use lib.ListN.{getD, take, length-take, List·getD-eq-default}
 use lib.Seq.{getD-take}
 use Rattle.hazard.specs.Cube as digits
 use Rattle.cube.specs.Mask.{digitsOf, Stands}

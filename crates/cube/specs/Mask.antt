@@ -1,7 +1,7 @@
 -- The digit list that two masks stand for.
 use mathlib.Core.Path.{_≡_}
 use mathlib.Core.Bool.{cond}
-use mathlib.Core.List.{List, [], _∷_}
+use mathlib.Core.List.{[], _∷_}
 use Prim.Native.Nat.{ℕ, zero, suc, _/_, _%_, _^_, _<_}
 use lib.Dec.{eqb}
 use lib.Bits.{bitAnd}

@@ -1,12 +1,11 @@
 -- A computed test that finds the only minimal network: each required cube has a greatest dhf-implicant around it, and those are the products.
-use mathlib.Core.Path.{_≡_, refl, sym, ap, subst, subst⁻¹}
-use mathlib.Core.Logic.{_↔_, _⊎_, inl, inr, ∥∥₁-map}
+use mathlib.Core.Path.{_≡_, refl, sym, subst}
+use mathlib.Core.Logic.{_⊎_, inl, inr, ∥∥₁-map}
 use mathlib.Core.Bool.{Bool, not, _&&_}
-use mathlib.Core.List.{List, [], _∷_, _++_, map, Perm, perm-ext-iff-of-nodup, List·Mem, List·Memᴰ, List·Memᴰ·head, List·Memᴰ·tail, List·Memᴰ·cases-cons, Memᴰ·append-left, Memᴰ·append-right, Memᴰ·map, Memᴰ·cast}
+use mathlib.Core.List.{List, [], _∷_, _++_, map, Perm, perm-ext-iff-of-nodup, List·Memᴰ, List·Memᴰ·head, List·Memᴰ·tail, List·Memᴰ·cases-cons, Memᴰ·append-left, Memᴰ·append-right, Memᴰ·map, Memᴰ·cast}
 use mathlib.Core.Option.{Option, none, some}
 use Prim.Native.Nat.{ℕ, zero, suc, _+_, _≤_, _<_}
 use native.Mathlib.Omega.{arith}
-use native.Mathlib.Decide.{ℕ-discrete}
 use lib.Dec.{T, leb, leb→le}
 use lib.ListN.{length}
 use Rattle.hazard.specs.Search.{found, first, find}
@@ -14,11 +13,11 @@ use Rattle.hazard.specs.Cube.{Cube, isProduct, inside}
 use Rattle.hazard.specs.Transition.{off}
 use Rattle.hazard.specs.Sets.{Required, required, privileged}
 use Rattle.hazard.specs.Implicant.{dhfImplicant, DhfPrime}
-use Rattle.hazard.specs.Cover.{Network, productAt, covered, without, Own, Irredundant}
+use Rattle.hazard.specs.Cover.{Network, productAt, covered, without, Irredundant}
 use Rattle.hazard.specs.Refusal.{Accepted}
 use Rattle.hazard.specs.Minimal.{Minimal}
 use Rattle.hazard.proofs.Test.{T-and, T-no, sure}
-use Rattle.hazard.proofs.Search.{not-found, Find, missing, hit, find-is, find-none, first-none}
+use Rattle.hazard.proofs.Search.{not-found, Find, hit, find-is, find-none, first-none}
 use Rattle.hazard.proofs.Cube.{Digits, nil, cons, digits→, inside→, →inside, inside-trans, inside-antisym}
 use Rattle.hazard.proofs.Network.{place-of, entry-at, covered-e, covered-by}
 use Rattle.hazard.proofs.Minimal.{irredundant-nodup, minimal, minimal-own}

@@ -1,5 +1,4 @@
 -- A cover exists exactly if no required cube blocks.
-use mathlib.Core.Path.{_≡_, refl}
 use mathlib.Core.Logic.{_↔_}
 use mathlib.Core.Bool.{Bool}
 use mathlib.Core.List.{List, List·Memᴰ, map, Memᴰ·map, Memᴰ·of-map}
@@ -12,7 +11,7 @@ use Rattle.hazard.specs.Expansion.{grownOr}
 use Rattle.hazard.specs.Cover.{Network, productAt, WellFormed, covered, Cover}
 use Rattle.hazard.proofs.Cube.{Digits, Inside, digits→, →digits, has→, →has, has-dec, inside→, →inside}
 use Rattle.hazard.proofs.Implicant.{illegal→, →illegal, Dhf, Wide}
-use Rattle.hazard.proofs.Growth.{Ends, legal, blocked, grow-ends, blocked-none}
+use Rattle.hazard.proofs.Growth.{Ends, legal, grow-ends, blocked-none}
 use Rattle.hazard.proofs.Network.{entry-at, covered-e, covered-by}
 
 module _ (n : ℕ) (off : ℕ → Bool) (rs : List Required) (vs : List Privileged) (wide : Wide n vs) where

@@ -1,7 +1,7 @@
 -- Supercube-dhf ends at the least dhf-implicant around its cube, or shows that there is none; in at most n steps, whatever the fuel.
 use mathlib.Core.Path.{_≡_, refl, subst}
 use mathlib.Core.Bool.{Bool}
-use mathlib.Core.List.{List, List·Memᴰ}
+use mathlib.Core.List.{List}
 use mathlib.Core.Option.{Option, none, some}
 use Prim.Native.Nat.{ℕ, zero, suc, _+_, _^_, _≤_, _<_}
 use native.Mathlib.Omega.{arith}
@@ -12,7 +12,7 @@ use Rattle.hazard.specs.Sets.{Privileged}
 use Rattle.hazard.specs.Implicant.{illegal, lowestZero}
 use Rattle.hazard.specs.Growth.{Growth, Legal, Blocked, steps, growFrom, grow}
 use Rattle.hazard.proofs.Cube.{Digits, Has, Inside, inside-refl, inside-trans, inside-has, join-digits, inside-join, join-least, fixed, join-less, fixed-le, none-fixed}
-use Rattle.hazard.proofs.Implicant.{Illegal, Clean, Closed, Dhf, Wide, Zero, clean, zero·, zero-is, Meeting, closed, illegally, meeting-is}
+use Rattle.hazard.proofs.Implicant.{Closed, Dhf, Wide, Zero, clean, zero·, zero-is, Meeting, closed, illegally, meeting-is}
 
 module _ (n : ℕ) (off : ℕ → Bool) (vs : List Privileged) where
   -- Growth without fuel.

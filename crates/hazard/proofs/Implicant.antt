@@ -1,14 +1,13 @@
 -- What the tests of specs/Implicant mean, over an OFF-set and a list of privileged cubes.
-use mathlib.Core.Path.{_≡_, refl, subst}
 use mathlib.Core.Logic.{_↔_}
 use mathlib.Core.Bool.{Bool, not, _&&_}
 use mathlib.Core.List.{List, List·Memᴰ}
 use mathlib.Core.Option.{Option, none, some}
-use Prim.Native.Nat.{ℕ, _^_, _≤_, _<_}
+use Prim.Native.Nat.{ℕ, _^_, _<_}
 use native.Mathlib.Omega.{arith}
 use lib.Dec.{T}
-use Rattle.hazard.specs.Search.{found, first, find}
-use Rattle.hazard.specs.Cube.{Cube, isProduct, has, meets, inside}
+use Rattle.hazard.specs.Search.{found, find}
+use Rattle.hazard.specs.Cube.{Cube, has, meets, inside}
 use Rattle.hazard.specs.Sets.{Privileged}
 use Rattle.hazard.specs.Implicant.{illegal, lowestZero, dhfImplicant, DhfPrime}
 use Rattle.hazard.proofs.Test.{T-and, T-no}

@@ -1,7 +1,7 @@
 -- Points and cubes by their inputs. An input past the end of a digit list is free.
 use mathlib.Core.Path.{_≡_, refl, sym, ap, _∙_}
-use mathlib.Core.Logic.{_≢_, _↔_}
-use mathlib.Core.List.{List, [], _∷_}
+use mathlib.Core.Logic.{_≢_}
+use mathlib.Core.List.{[], _∷_}
 use Prim.Native.Nat.{ℕ, zero, suc, _+_, _-_, _*_, _/_, _%_, _^_, _≤_, _<_}
 use native.Mathlib.Nat.{not-suc-le-zero, le-of-suc-le-suc, div-one, div-eq-of-lt, div-div-eq-div-mul, mod-lt, pow-suc, mul-comm}
 use native.Mathlib.Omega.{arith}
@@ -10,7 +10,7 @@ use lib.Dec.{T, eqb, eqb→eq}
 use lib.ListN.{length, getD, List·getD-eq-default}
 use Rattle.hazard.specs.Cube.{Cube, bit, flip, over, has, span, inside}
 use Rattle.hazard.proofs.Test.{tests, cond-yes, cond-no, eqb-of}
-use Rattle.hazard.proofs.Cube.{Digits, nil, cons, Has, has→, →has, inside→, →inside, inside-has, span-digits, span-left, span-right, span-least}
+use Rattle.hazard.proofs.Cube.{Digits, nil, cons, has→, →has, inside→, →inside, inside-has, span-digits, span-left, span-right, span-least}
 
 -- Bits and digits.
 pub bit-zero : (x : ℕ) → bit x 0 ≡ x % 2

@@ -2,8 +2,8 @@
 use mathlib.Core.Path.{_≡_, refl, subst, subst⁻¹}
 use mathlib.Core.Logic.{_↔_, _⊎_, inl, inr}
 use mathlib.Core.Bool.{Bool, true, false, not, cond, _&&_, _||_}
-use Prim.Native.Nat.{ℕ, _≤_, _<_}
-use lib.Dec.{T, eqb, leb, ltb, eqb→eq, eqb-refl, leb→le, le→leb, ltb→lt, lt→ltb, T-not, not-T}
+use Prim.Native.Nat.{ℕ, _≤_}
+use lib.Dec.{T, eqb, leb, eqb→eq, eqb-refl, leb→le, le→leb, T-not, not-T}
 
 pub is : {b : Bool} → T b → b ≡ true
 is {b = true} t = refl

@@ -1,5 +1,5 @@
 -- Networks and hazard-free covers: conditions (a), (b) and (c) of Theorem 2.10 of the source.
-use mathlib.Core.Bool.{Bool, true, false, _||_}
+use mathlib.Core.Bool.{Bool, false, _||_}
 use mathlib.Core.List.{List, [], _∷_, List·Memᴰ}
 use Prim.Native.Nat.{ℕ, zero, suc, _<_, _^_}
 use lib.Dec.{T}

@@ -1,7 +1,7 @@
 -- Texts that are of the form, and texts that are not.
 use mathlib.Core.Path.{refl}
 use mathlib.Core.List.{List, [], _∷_}
-use Prim.Native.Nat.{ℕ, zero, suc, _<_}
+use Prim.Native.Nat.{ℕ, zero, suc}
 use native.Mathlib.Omega.{arith}
 use Rattle.problem_text.specs.Form.{Form, Formed, Numbers}
 use Rattle.problem_text.proofs.Readings.{no-inputs, no-table, whole-form}

@@ -1,11 +1,10 @@
 -- A text is the printed form of one problem at most.
 use mathlib.Core.Path.{_≡_, refl, sym, ap, _∙_}
-use mathlib.Core.List.{List, [], _∷_, _++_, map}
-use mathlib.Core.Option.{Option, none, some, Option·some-injective}
-use Prim.Native.Nat.{ℕ, _≤_, _<_}
-use lib.ListN.{length}
-use Rattle.problem_text.specs.Form.{newline, cell, transitionLines, printed, Form, Formed}
-use Rattle.problem_text.specs.Read.{andThen, fieldBy, tableLine}
+use mathlib.Core.List.{List, _∷_, _++_, map}
+use mathlib.Core.Option.{some, Option·some-injective}
+use Prim.Native.Nat.{ℕ}
+use Rattle.problem_text.specs.Form.{newline, cell, transitionLines, Form}
+use Rattle.problem_text.specs.Read.{fieldBy, tableLine}
 use Rattle.problem_text.proofs.Numbers.{field-read}
 use Rattle.problem_text.proofs.Tables.{table-read}
 use Rattle.problem_text.proofs.Transitions.{lines-unique}

@@ -9,7 +9,7 @@ use native.Mathlib.Nat.{pow-suc}
 use native.Mathlib.Decide.{decLt}
 use native.Mathlib.Omega.{arith}
 use lib.Dec.{T, eqb, leb, ltb}
-use borrow.Author.Tests.{le-leb, leb-true, lt-ltb, le-ltb, ltb-true, ltb-false, ne-eqb, eqb-true, eq-eqb, eqb-false}
+use borrow.Author.Tests.{le-leb, leb-true, lt-ltb, le-ltb, ltb-false, ne-eqb, eqb-true, eq-eqb, eqb-false}
 use Rattle.hazard.proofs.Search.{none-some}
 use Rattle.problem_text.specs.Decimal.{digit, spelled, decimal}
 use Rattle.problem_text.specs.Read.{andThen, isDigit, extended, more, number, ended, fieldBy}

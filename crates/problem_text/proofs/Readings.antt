@@ -1,15 +1,15 @@
 -- A text is of the form exactly if its three parts are read.
 use mathlib.Core.Path.{_≡_, sym, ap, _∙_}
-use mathlib.Core.List.{List, [], _∷_, _++_, map}
-use mathlib.Core.Option.{Option, none, some, Option·some-injective}
+use mathlib.Core.List.{List, _∷_, _++_, map}
+use mathlib.Core.Option.{none, some, Option·some-injective}
 use Prim.Native.Nat.{ℕ, _≤_, _<_}
 use native.Mathlib.Omega.{arith}
 use lib.ListN.{length, take}
 use lib.Seq.{length-take-le}
 use Rattle.hazard.proofs.Search.{none-some}
 use Rattle.problem_text.specs.Decimal.{decimal}
-use Rattle.problem_text.specs.Form.{newline, cell, transitionLines, flat, Numbers, printed, Form, Formed}
-use Rattle.problem_text.specs.Read.{fieldBy, tableLine, Lines, lines, other, Reading, problem, malformed}
+use Rattle.problem_text.specs.Form.{newline, cell, transitionLines, Numbers, Form, Formed}
+use Rattle.problem_text.specs.Read.{fieldBy, tableLine, Lines, lines, other, Reading, problem}
 use Rattle.problem_text.specs.declared.count.Count.the-variants as count
 use Rattle.problem_text.specs.declared.read.Read.the-variants as read
 use Rattle.problem_text.proofs.Numbers.{field-spelled}

@@ -1,16 +1,15 @@
 -- Reading the lines of transitions reads exactly their printed form.
 use mathlib.Core.Path.{_≡_, refl, sym, ap, ap₂, _∙_}
-use mathlib.Core.Bool.{Bool, true, false}
 use mathlib.Core.List.{List, [], _∷_, _++_, append-assoc, append-nil}
 use mathlib.Core.Option.{Option, none, some, Option·some-injective}
-use Prim.Native.Nat.{ℕ, zero, suc, _+_, _*_, _≤_, _<_}
+use Prim.Native.Nat.{ℕ, suc, _+_, _<_}
 use native.Mathlib.Omega.{arith}
-use lib.ListN.{length, getD, length-append}
+use lib.ListN.{length, length-append}
 use Rattle.hazard.proofs.Search.{none-some}
 use Rattle.problem_text.specs.Decimal.{decimal}
-use Rattle.problem_text.specs.Form.{newline, space, transitionLines, flat, Numbers}
+use Rattle.problem_text.specs.Form.{newline, space, transitionLines, Numbers}
 use Rattle.problem_text.specs.Read.{andThen, fieldBy, transitionLine}
-use Rattle.problem_text.proofs.Numbers.{Spelled, then-known, field-read, field-spelled}
+use Rattle.problem_text.proofs.Numbers.{then-known, field-read, field-spelled}
 
 -- The text begins with the line of the transition from a to b.
 pub record Line (cs : List ℕ) (a b : ℕ) (rest : List ℕ) : Type 0 where

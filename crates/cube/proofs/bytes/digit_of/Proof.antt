@@ -1,5 +1,5 @@
 use mathlib.Core.Bool.{cond}
-use mathlib.Core.Path.{_≡_, refl, sym, ap, _∙_}
+use mathlib.Core.Path.{sym, ap, _∙_}
 use borrow.Author.Tests.{ne-eqb}
 use Rattle.hazard.specs.Cube.{bit}
 use borrow.Author.Needs.{needs}

@@ -5,7 +5,6 @@ use lib.ListN.{length}
 use borrow.Author.Needs.{needs}
 use borrow.Author.Tests.{not-true, not-false}
 use Rattle.problem_text.specs.Read.{longerOf}
-use Rattle.problem_text.proofs.Numbers.{code-range}
 use Rattle.problem_text.proofs.Digits.{Digits, digits-past, digits-none, digits-start, digits-other, digits-full, digits-on, digits-end}
 use Rattle.problem_text.proofs.number.number_at.Statement.{statement}
 use Rattle.problem_text.proofs.number.number_at.Tie as tie
