@@ -6,26 +6,19 @@ use Prim.Native.Nat.{ℕ, _+_, _*_, _/_, _%_, _^_, _≤_, _<_}
 use native.Mathlib.Omega.{arith}
 use native.Mathlib.Decide.{ℕ-discrete, decLt}
 use lib.ListN.{length, getD, List·getD-eq-default}
-use lib.Pow.{pow-pos, pow-mono}
+use lib.Pow.{pow-pos}
 use Rattle.hazard.specs.Search.{firstOf}
 use Rattle.hazard.specs.Refusal as spec
 use Rattle.hazard.specs.Sets.{required}
 use Rattle.hazard.proofs.Search.{firstOf-none, entries, firstOf-append}
 use Rattle.hazard.proofs.Rules.{inputs-few, length-whole, list-few, ends-within}
 use Rattle.points.specs.Plane.{Plane}
-use Rattle.sets.specs.Ready.{Ready, Listed}
+use Rattle.sets.specs.Ready.{Ready}
 use Rattle.refusal.specs.Answer.{refusalOf}
 use Rattle.refusal.specs.declared.refusal.Refusal.{Refusal}
 use Rattle.checks.specs.Answer.{formChecks, CountedBy, Answer}
 use Rattle.checks.specs.declared.many.Counted.{Counted}
 use Rattle.checks.specs.declared.many.Counted.the-variants as counted
-
--- A table of at most 10 inputs.
-pub ready-few : {n : ℕ} {f ts : List ℕ} → Ready n f ts → length f ≤ 1024
-ready-few r = rw (r .whole) (pow-mono (r .small))
-
-pub ready-listed : {n : ℕ} {f ts : List ℕ} → Ready n f ts → Listed n ts
-ready-listed r = record { small = r .small; few = r .few; within = r .within }
 
 module _ (n : ℕ) (f ts : List ℕ) where
   -- What the checks of the form leave.

@@ -1,20 +1,17 @@
 // The input rules, one run after another.
 ghost use mathlib.Core.Path.{_≡_};
 ghost use Rattle.hazard.specs.Search.{firstOf};
-ghost use Rattle.hazard.specs.Refusal.{pointsChecks, inputChecks};
-ghost use Rattle.points.specs.Plane.{Planes};
-ghost use Rattle.sets.specs.Ready.{Ready};
+ghost use Rattle.hazard.specs.Refusal.{inputChecks};
 ghost use Rattle.refusal.specs.Answer.{checkedOf};
 ghost use Rattle.checks.specs.Answer.{formChecks, Answer};
-use crate::defined::check_defined;
 use crate::inputs::check_inputs;
 use crate::list::list_checks;
 use crate::many::Counted;
 use crate::many::check_many;
-use crate::rules::check_rules;
 use crate::table::table_checks;
 use points::plane::plane_into;
 use refusal::checked::Checked;
+use rules::run::points_checks;
 
 // Checks 1 to 5: the form of the problem.
 pub fn form_checks(n: usize, table: &[u8], transitions: &[u16]) -> Checked
@@ -29,26 +26,6 @@ pub fn form_checks(n: usize, table: &[u8], transitions: &[u16]) -> Checked
         return whole;
     };
     list_checks(n, transitions)
-}
-
-// Checks 6 and 7: the table under the transitions, by its planes.
-pub fn points_checks(
-    n: usize,
-    table: &[u8],
-    transitions: &[u16],
-    zeros: &[u64],
-    ones: &[u64],
-    twos: &[u64],
-) -> Checked
-    requires { ⌜ Ready n (now table) (now transitions) ⌝ }
-    requires { ⌜ Planes (now table) (now zeros) (now ones) (now twos) ⌝ }
-    ensures { λ r. ⌜ checkedOf r ≡ firstOf (pointsChecks n (now (table .entry)) (now (transitions .entry))) ⌝ }
-{
-    let defined = check_defined(n, transitions, twos);
-    let Checked::Accepted = defined else {
-        return defined;
-    };
-    check_rules(n, table, transitions, zeros, ones)
 }
 
 // The input rules. Nothing is asked of the problem that comes in; its planes are made in the lent words.

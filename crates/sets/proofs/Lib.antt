@@ -2,3 +2,4 @@ pub mod Coded
 pub mod Word
 pub mod Gather
 pub mod Parts
+pub mod Ready

@@ -5,7 +5,8 @@ use Rattle.hazard.proofs.Search.{firstOf-one}
 use Rattle.sets.specs.Ready.{Ready}
 use Rattle.refusal.proofs.Checks.{passed, run-refused, run-passed}
 use Rattle.checks.specs.Answer.{formChecks}
-use Rattle.checks.proofs.Checks.{ready-few, form-ready, answer-filled}
+use Rattle.sets.proofs.Ready.{ready-few}
+use Rattle.checks.proofs.Checks.{form-ready, answer-filled}
 use borrow.Author.Needs.{needs}
 use Rattle.checks.proofs.check.check.Statement.{statement}
 use Rattle.checks.proofs.check.check.Tie as tie

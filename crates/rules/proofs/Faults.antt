@@ -19,7 +19,7 @@ use Rattle.points.proofs.Walk.{Agrees}
 use Rattle.points.proofs.Agree.{first-same, plane-agrees}
 use Rattle.moves.specs.Further.{furtherIn}
 use Rattle.moves.proofs.Agree.{turns-agree}
-use Rattle.checks.specs.Fault.{definedIn, breaksIn, brokenIn}
+use Rattle.rules.specs.Fault.{definedIn, breaksIn, brokenIn}
 
 -- Looks that find the same are found at the same place.
 place-same : (g h : ℕ → Option ℕ) → ((k : ℕ) → g k ≡ h k) → (from size : ℕ) → firstPlace g from size ≡ firstPlace h from size

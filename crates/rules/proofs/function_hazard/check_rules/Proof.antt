@@ -10,10 +10,10 @@ use Rattle.cube.proofs.Scan.{Places, places-start, places-hit, places-miss, pla
 use Rattle.points.specs.Found.{foundOf}
 use Rattle.points.proofs.Agree.{plane-points}
 use Rattle.sets.specs.Codes.{kindIs}
-use Rattle.checks.proofs.Faults.{broken-is}
+use Rattle.rules.proofs.Faults.{broken-is}
 use borrow.Author.Needs.{needs}
-use Rattle.checks.proofs.rules.check_rules.Statement.{statement}
-use Rattle.checks.proofs.rules.check_rules.Tie as tie
+use Rattle.rules.proofs.function_hazard.check_rules.Statement.{statement}
+use Rattle.rules.proofs.function_hazard.check_rules.Tie as tie
 
 abbrev Inv-loop : tie.InvT-loop
 Inv-loop n table transitions zeros ones count t₀ t =

@@ -13,8 +13,8 @@ use Rattle.cube.proofs.Scan.{Places, places-start, places-hit, places-miss, pla
 use Rattle.points.specs.Found.{foundOf}
 use Rattle.points.proofs.Ready.{words-ready}
 use borrow.Author.Needs.{needs}
-use Rattle.checks.proofs.defined.check_defined.Statement.{statement}
-use Rattle.checks.proofs.defined.check_defined.Tie as tie
+use Rattle.rules.proofs.defined.check_defined.Statement.{statement}
+use Rattle.rules.proofs.defined.check_defined.Tie as tie
 
 abbrev Inv-loop : tie.InvT-loop
 Inv-loop n transitions twos count t₀ t =

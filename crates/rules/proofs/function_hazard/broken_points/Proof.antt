@@ -5,10 +5,10 @@ use Rattle.cube.specs.PointSet.{inSet}
 use Rattle.points.specs.PointWord.{WordOf, masked}
 use Rattle.sets.specs.declared.kind.Kind.{Kind}
 use Rattle.sets.specs.Codes.{kindIs}
-use Rattle.checks.specs.Fault.{breaksIn}
+use Rattle.rules.specs.Fault.{breaksIn}
 use borrow.Author.Needs.{needs}
-use Rattle.checks.proofs.rules.broken_points.Statement.{statement}
-use Rattle.checks.proofs.rules.broken_points.Tie as tie
+use Rattle.rules.proofs.function_hazard.broken_points.Statement.{statement}
+use Rattle.rules.proofs.function_hazard.broken_points.Tie as tie
 
 enum-told : tie.Need-enum-told
 enum-told c = search needs

@@ -4,7 +4,7 @@ ghost use lib.ListN.{length};
 ghost use Rattle.cube.specs.PointSet.{inSet};
 ghost use Rattle.sets.specs.Ready.{Listed};
 ghost use Rattle.refusal.specs.Answer.{checkedOf};
-ghost use Rattle.checks.specs.Fault.{definedIn};
+ghost use Rattle.rules.specs.Fault.{definedIn};
 use cube::mask::span_of;
 use points::lowest::Found;
 use points::lowest::lowest_in;

@@ -2,11 +2,11 @@ use mathlib.Core.Path.{_∙_, sym}
 use mathlib.Core.List.{[], _∷_}
 use Rattle.hazard.specs.Refusal.{definedCheck, rulesCheck}
 use Rattle.refusal.proofs.Checks.{run-stays, run-passed, alone}
-use Rattle.checks.proofs.Checks.{ready-listed}
-use Rattle.checks.proofs.Faults.{defined-is}
+use Rattle.sets.proofs.Ready.{ready-listed}
+use Rattle.rules.proofs.Faults.{defined-is}
 use borrow.Author.Needs.{needs}
-use Rattle.checks.proofs.check.points_checks.Statement.{statement}
-use Rattle.checks.proofs.check.points_checks.Tie as tie
+use Rattle.rules.proofs.run.points_checks.Statement.{statement}
+use Rattle.rules.proofs.run.points_checks.Tie as tie
 
 check-defined-requires : tie.Need-check-defined-requires
 check-defined-requires c κs = let s = c .before .before .before .before .before in (ready-listed (s .pre .0), s .pre .1 .twos· .long)

@@ -11,7 +11,7 @@ ghost use Rattle.points.specs.Found.{foundOf};
 ghost use Rattle.sets.specs.Codes.{kindIs};
 ghost use Rattle.sets.specs.Ready.{Ready};
 ghost use Rattle.refusal.specs.Answer.{checkedOf};
-ghost use Rattle.checks.specs.Fault.{breaksIn, brokenIn};
+ghost use Rattle.rules.specs.Fault.{breaksIn, brokenIn};
 use cube::mask::span_of;
 use cube::point::next;
 use cube::word_mask::low_mask;

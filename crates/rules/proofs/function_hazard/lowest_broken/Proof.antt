@@ -9,11 +9,11 @@ use Rattle.cube.specs.PointSet.{inSet}
 use Rattle.points.proofs.Walk.{Agrees, inWords, Visit, visit-start, visit-word, visit-gap, visit-next, Looked, looked-start, looked-more, looked-within, looked-hit, looked-end}
 use Rattle.points.proofs.Agree.{stands-ten, agrees}
 use Rattle.sets.specs.Codes.{kindIs}
-use Rattle.checks.specs.Fault.{breaksIn}
-use Rattle.checks.proofs.Faults.{breaks-agree}
+use Rattle.rules.specs.Fault.{breaksIn}
+use Rattle.rules.proofs.Faults.{breaks-agree}
 use borrow.Author.Needs.{needs}
-use Rattle.checks.proofs.rules.lowest_broken.Statement.{statement}
-use Rattle.checks.proofs.rules.lowest_broken.Tie as tie
+use Rattle.rules.proofs.function_hazard.lowest_broken.Statement.{statement}
+use Rattle.rules.proofs.function_hazard.lowest_broken.Tie as tie
 
 abbrev Inv-loop : tie.InvT-loop
 Inv-loop n k zeros ones a b size m h words w₀ w =
