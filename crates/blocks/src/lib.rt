@@ -1,7 +1,3 @@
-// Sets of rows as words of 64 bits, and rows tested against a cube block by block.
+// The columns of rows, in blocks of 64.
 pub mod fill;
-pub mod member;
-pub mod narrow;
-pub mod split;
-pub mod whole;
 pub mod word;

@@ -4,14 +4,14 @@ ghost use Prim.Native.Nat.{_*_, _^_, _<_};
 ghost use Rattle.blocks.specs.Blocks.{stride, runOf, wordAt};
 
 // How many words a run has: as many as there are blocks that the columns have room for.
-pub(crate) fn stride(columns: &[u64]) -> usize
+pub fn stride(columns: &[u64]) -> usize
     ensures { λ r. ⌜ r ≡ stride (now (columns .entry)) ⌝ }
 {
     columns.len() / 30
 }
 
 // Where the run of input i and digit d begins, with so many words in each run.
-pub(crate) fn run_of(words: usize, i: usize, d: usize) -> usize
+pub fn run_of(words: usize, i: usize, d: usize) -> usize
     requires { ⌜ (30 * words < 2 ^ 64) × (i < 10) × (d < 3) ⌝ }
     ensures { λ r. ⌜ r ≡ runOf words i d ⌝ }
 {

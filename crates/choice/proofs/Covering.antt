@@ -20,7 +20,7 @@ use Rattle.cube.specs.Entry.{cubeIn, networkIn}
 use Rattle.cube.specs.PointSet.{inSet}
 use Rattle.cube.specs.declared.mask.Cube as masks
 use Rattle.blocks.specs.Blocks.{allowedTo}
-use Rattle.blocks.proofs.Members.{lowest-few, lowest-set}
+use Rattle.rows.proofs.Members.{lowest-few, lowest-set}
 use Rattle.choice.specs.Rows.{Containing}
 use Rattle.choice.proofs.Firsts.{product-in}
 

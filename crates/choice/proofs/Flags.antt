@@ -15,7 +15,7 @@ use Rattle.cube.specs.Entry.{cubeIn}
 use Rattle.cube.specs.PointSet.{inSet}
 use Rattle.cube.specs.declared.mask.Cube as masks
 use Rattle.blocks.specs.Blocks.{allowedTo}
-use Rattle.blocks.specs.Sets.{Split}
+use Rattle.rows.specs.Sets.{Split}
 use Rattle.choice.specs.Rows.{Inside}
 use Rattle.choice.specs.Flag.{Flagged, Unflagged, Flagging}
 

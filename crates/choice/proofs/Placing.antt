@@ -15,7 +15,7 @@ use Rattle.hazard.specs.Cube.{bit, flip}
 use Rattle.hazard.proofs.Point.{flip-same, flip-other}
 use Rattle.hazard.proofs.Test.{T-and, is, isnt, eqb-of, bool-ext}
 use Rattle.cube.specs.PointSet.{inSet}
-use Rattle.blocks.proofs.Members.{lowest-few, lowest-set}
+use Rattle.rows.proofs.Members.{lowest-few, lowest-set}
 use Rattle.choice.specs.Rows.{inWord}
 
 -- What stands there in the end is what stands there now, and v in the places of the rows that are left.

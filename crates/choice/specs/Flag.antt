@@ -8,7 +8,7 @@ use lib.ListN.{length, getD}
 use Rattle.hazard.specs.Cover.{Network, covered}
 use Rattle.cube.specs.Entry.{cubeIn}
 use Rattle.cube.specs.PointSet.{inSet}
-use Rattle.blocks.specs.Sets.{Split}
+use Rattle.rows.specs.Sets.{Split}
 
 -- A flag is set exactly if its required cube lies in a product of the network.
 abbrev pub Flagged : ℕ → List ℕ → List Bool → Network → Type 0

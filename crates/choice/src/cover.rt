@@ -4,12 +4,12 @@ ghost use Prim.Native.Nat.{_*_, _≤_};
 ghost use lib.ListN.{length};
 ghost use Rattle.hazard.specs.Cover.{covered};
 ghost use Rattle.cube.specs.Entry.{cubeIn, networkIn};
-ghost use Rattle.blocks.specs.Sets.{Fits};
+ghost use Rattle.rows.specs.Sets.{Fits};
 ghost use Rattle.choice.specs.Rows.{Containing};
-use blocks::narrow::narrow;
-use blocks::whole::has_row;
-use blocks::whole::whole_into;
 use cube::entry::cube_in;
+use rows::narrow::narrow;
+use rows::whole::has_row;
+use rows::whole::whole_into;
 
 // Some product contains the required cube. The products are the rows of the columns; `rows` is room for a set of them.
 pub fn covers(n: usize, products: &[u64], columns: &[u64], rows: &mut [u64], r: u64) -> bool

@@ -5,9 +5,9 @@ ghost use Prim.Native.Nat.{ℕ, _≤_, _<_};
 ghost use lib.Dec.{T};
 ghost use lib.ListN.{length, getD};
 ghost use Rattle.cube.specs.PointSet.{inSet};
-ghost use Rattle.blocks.specs.Sets.{mostWords};
+ghost use Rattle.rows.specs.Sets.{mostWords};
 ghost use Rattle.choice.specs.Rows.{inWord};
-use blocks::member::without_lowest;
+use rows::member::without_lowest;
 
 // Product j is noted for the rows of word b of a set.
 fn note_word(firsts: &mut [u16], b: usize, word: u64, j: u16)

@@ -6,12 +6,12 @@ ghost use lib.Dec.{T};
 ghost use lib.ListN.{length, getD};
 ghost use Rattle.cube.specs.PointSet.{inSet};
 ghost use Rattle.blocks.specs.Blocks.{allowedTo};
-ghost use Rattle.blocks.specs.Sets.{mostWords, Fits};
+ghost use Rattle.rows.specs.Sets.{mostWords, Fits};
 ghost use Rattle.choice.specs.Rows.{inWord};
 ghost use Rattle.choice.specs.Flag.{Flagging};
-use blocks::member::without_lowest;
-use blocks::split::split;
 use cube::mask::Cube;
+use rows::member::without_lowest;
+use rows::split::split;
 
 // The rows of word b of a set are flagged.
 fn flag_word(flags: &mut [bool], b: usize, word: u64)

@@ -4,13 +4,13 @@ ghost use Prim.Native.Nat.{ℕ, _*_, _≤_, _<_};
 ghost use lib.ListN.{length, getD};
 ghost use Rattle.hazard.specs.Limits.{mostRequired};
 ghost use Rattle.hazard.specs.Search.{found, first};
-ghost use Rattle.blocks.specs.Sets.{Fits};
+ghost use Rattle.rows.specs.Sets.{Fits};
 ghost use Rattle.choice.specs.Keep.{neededIn, Lowest, Noted, Kept};
 ghost use Rattle.choice.specs.Rows.{Inside};
 use crate::flag::flag_product;
-use blocks::whole::whole_into;
 use cube::entry::cube_in;
 use hazard::limits::MOST_REQUIRED;
+use rows::whole::whole_into;
 
 // Required cube i has product j for its first, and its flag is not set: it lies in no product kept so far.
 fn needed_at(firsts: &[u16], flags: &[bool], j: u16, i: usize) -> bool

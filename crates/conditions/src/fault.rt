@@ -9,7 +9,7 @@ ghost use Rattle.cube.specs.Entry.{requiredIn, privilegedIn, CleanWord, network
 ghost use Rattle.cube.specs.PointSet.{inSet};
 ghost use Rattle.legality.specs.Columns.{Columns};
 ghost use Rattle.points.specs.Ready.{Ready};
-ghost use Rattle.blocks.specs.Sets.{Fits};
+ghost use Rattle.rows.specs.Sets.{Fits};
 ghost use Rattle.choice.specs.Rows.{Containing};
 ghost use Rattle.conditions.specs.Answer.{placeOf, unmetOf, verdictOf};
 use choice::cover::covers;

@@ -5,7 +5,7 @@ use Prim.Native.Nat.{ℕ, _+_, _-_, _*_, _/_, _≤_}
 use native.Mathlib.Omega.{arith}
 use lib.ListN.{length, take, replicate, length-replicate}
 use lib.Seq.{length-take-le}
-use Rattle.blocks.specs.Sets.{mostWords, Fits}
+use Rattle.rows.specs.Sets.{mostWords, Fits}
 use Rattle.minimiser.specs.Room.{Room, Columns}
 
 -- Arrays of the same size are room for as many.

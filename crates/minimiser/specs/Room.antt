@@ -3,7 +3,7 @@ use mathlib.Core.Path.{_≡_}
 use mathlib.Core.List.{List}
 use Prim.Native.Nat.{ℕ, _*_, _≤_}
 use lib.ListN.{length}
-use Rattle.blocks.specs.Sets.{Fits}
+use Rattle.rows.specs.Sets.{Fits}
 
 -- Room for k required cubes, for the first product of each, and for as many products.
 pub record Room (k : ℕ) (required firsts products : List ℕ) : Type 0 where

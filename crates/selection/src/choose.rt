@@ -6,17 +6,17 @@ ghost use Rattle.hazard.specs.Limits.{mostRequired};
 ghost use Rattle.cube.specs.Entry.{CleanWord};
 ghost use Rattle.points.specs.Ready.{Ready};
 ghost use Rattle.legality.specs.Columns.{Columns};
-ghost use Rattle.blocks.specs.Sets.{Fits};
+ghost use Rattle.rows.specs.Sets.{Fits};
 ghost use Rattle.choice.specs.Rows.{Inside};
 ghost use Rattle.selection.specs.Choose.{Choice};
 use crate::minimised::Minimised;
 use crate::product::Made;
 use crate::product::product_for;
-use blocks::whole::whole_into;
 use choice::first::note;
 use choice::flag::flag_product;
 use cube::entry::pack;
 use hazard::limits::MOST_REQUIRED;
+use rows::whole::whole_into;
 
 // For each required cube whose flag is not set, the product for it is chosen, and those in it are flagged. One that lies in a product
 // cannot block, so the first that blocks is found on the way. `columns` has the required cubes for its rows; `uncovered` is the set of

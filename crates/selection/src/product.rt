@@ -9,10 +9,9 @@ ghost use Rattle.cube.specs.Entry.{privilegedIn, CleanWord};
 ghost use Rattle.cube.specs.PointSet.{inSet};
 ghost use Rattle.points.specs.Ready.{Ready};
 ghost use Rattle.legality.specs.Columns.{Columns};
-ghost use Rattle.blocks.specs.Sets.{Fits};
+ghost use Rattle.rows.specs.Sets.{Fits};
 ghost use Rattle.selection.specs.Product.{Over, PrimeOver, MadeFor};
 use crate::near::near;
-use blocks::member::without_lowest;
 use cube::entry::cube_in;
 use cube::mask::Cube;
 use cube::mask::lies_inside;
@@ -22,6 +21,7 @@ use expand::growth::grow;
 use expand::prime::absorbed;
 use expand::prime::expanded;
 use refusal::refusal::Refusal;
+use rows::member::without_lowest;
 
 // The cube grown over required cube k, where that ends legal; nothing to do where it lies inside already.
 fn grown_over(

@@ -8,7 +8,7 @@ ghost use Rattle.cube.specs.Entry.{requiredIn, privilegedIn, CleanWord};
 ghost use Rattle.cube.specs.PointSet.{inSet};
 ghost use Rattle.points.specs.Ready.{Ready};
 ghost use Rattle.legality.specs.Columns.{Columns};
-ghost use Rattle.blocks.specs.Sets.{Fits};
+ghost use Rattle.rows.specs.Sets.{Fits};
 ghost use Rattle.choice.specs.Rows.{Inside};
 ghost use Rattle.selection.specs.Answer.{minimisedOf, Answered};
 use crate::choose::choose;

@@ -15,7 +15,7 @@ use Rattle.cube.specs.Entry.{privilegedIn, requiredIn, CleanWord, cubeIn, netwo
 use Rattle.cube.specs.PointSet.{inSet}
 use Rattle.cube.proofs.Word.{taken-clean}
 use Rattle.sets.specs.Store.{StoredSets}
-use Rattle.blocks.specs.Sets.{Fits}
+use Rattle.rows.specs.Sets.{Fits}
 use Rattle.conditions.specs.Network.{Read}
 use Rattle.hazard.proofs.Verdict.{products-length}
 

@@ -2,7 +2,7 @@ use Prim.Native.Nat.{_-_, _<_}
 use native.Mathlib.Omega.{arith}
 use lib.Count.{trailing-le}
 use Rattle.cube.specs.Mask.{cubeOf}
-use Rattle.blocks.specs.Sets.{mostWords}
+use Rattle.rows.specs.Sets.{mostWords}
 use Rattle.selection.proofs.Products.{Stage, stage-start, stage-step, stage-end}
 use borrow.Author.Needs.{needs}
 use Rattle.selection.proofs.product.widened.Statement.{statement}
