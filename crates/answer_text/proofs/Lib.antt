@@ -1,3 +1,1 @@
-pub mod Writing
-pub mod Printing
 pub mod Replies

@@ -7,17 +7,9 @@ use Rattle.hazard.specs.Limits.{mostRequired}
 use Rattle.hazard.specs.Refusal.{Refusal}
 use Rattle.problem_text.specs.Decimal.{decimal}
 use Rattle.problem_text.specs.Form.{newline}
-use Rattle.answer_text.specs.Output.{productsHead, refusedHead, field, refusalText}
-use Rattle.answer_text.specs.Wrote.{Wrote}
-use Rattle.answer_text.proofs.Writing.{wrote-then, wrote-next}
-use Rattle.problem_text.proofs.Decimal.{spelled-length}
-
--- A number takes at most 5 bytes, and a field at most 6.
-pub number-next : {before after : List ℕ} {at next : ℕ} (x : ℕ) → Wrote before at (decimal x) after next → next ≤ at + 5
-number-next x p = wrote-next p 5 (spelled-length 5 x)
-
-pub field-next : {before after : List ℕ} {at next : ℕ} (x : ℕ) → Wrote before at (field x) after next → next ≤ at + 6
-field-next x p = wrote-next p 6 (omega (arith, spelled-length 5 x))
+use Rattle.writing.specs.Output.{productsHead, refusedHead, field, refusalText}
+use Rattle.writing.specs.Wrote.{Wrote}
+use Rattle.writing.proofs.Writing.{wrote-then}
 
 -- At most a line of 11 bytes for each required cube.
 pub lines-most : (n count : ℕ) → n ≤ 10 → count ≤ mostRequired → count * (n + 1) ≤ 11 * mostRequired

@@ -1,3 +1,2 @@
-// The text of the minimiser's answer: its form, and how it is written.
-pub mod put;
+// The text of the minimiser's answer, written.
 pub mod reply;

@@ -7,14 +7,14 @@ ghost use Rattle.hazard.specs.Verdict.{cut};
 ghost use Rattle.refusal.specs.Answer.{refusalOf};
 ghost use Rattle.problem_text.specs.Decimal.{decimal};
 ghost use Rattle.problem_text.specs.Form.{newline};
-ghost use Rattle.answer_text.specs.Output.{productsHead, productLines, mostOutput, refusalText};
-ghost use Rattle.answer_text.specs.Wrote.{Wrote};
-use crate::put::put_bytes;
-use crate::put::put_field;
-use crate::put::put_number;
-use crate::put::put_products;
+ghost use Rattle.writing.specs.Output.{productsHead, productLines, mostOutput, refusalText};
+ghost use Rattle.writing.specs.Wrote.{Wrote};
 use hazard::limits::MOST_REQUIRED;
 use refusal::refusal::Refusal;
+use writing::put::put_bytes;
+use writing::put::put_field;
+use writing::put::put_number;
+use writing::put::put_products;
 
 // The bytes of the longest output: a head of 9, a count of 5, an end of line, and a line of 11 for each required cube.
 pub const MOST_OUTPUT: usize = 15 + 11 * MOST_REQUIRED;

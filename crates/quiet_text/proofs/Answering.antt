@@ -10,7 +10,7 @@ use Rattle.hazard.specs.Search.{firstOf}
 use Rattle.hazard.specs.Refusal.{Refusal, refusal}
 use Rattle.hazard.proofs.Search.{none-some}
 use Rattle.problem_text.specs.Form.{Form, flat}
-use Rattle.answer_text.specs.Output.{mostOutput, refusalText}
+use Rattle.writing.specs.Output.{mostOutput, refusalText}
 use Rattle.problem_text.specs.Read.{Reading, problem, malformed}
 use Rattle.quiet_text.specs.Answer.{checks, Printed, Solved, Replied}
 use Rattle.problem_text.specs.declared.read.Read.the-variants as read

@@ -10,7 +10,7 @@ use Rattle.hazard.specs.Cover.{Network}
 use Rattle.hazard.specs.Refusal.{Refusal, refusal, inputChecks, Accepted}
 use Rattle.hazard.specs.Minimal.{blocking, Minimal, NoNetwork}
 use Rattle.problem_text.specs.Form.{Form, Formed, flat}
-use Rattle.answer_text.specs.Output.{networkText, mostOutput, refusalText}
+use Rattle.writing.specs.Output.{networkText, mostOutput, refusalText}
 use Rattle.quiet_text.specs.declared.answer.Output.{Output}
 use Rattle.quiet_text.specs.declared.answer.Output.the-variants.{Written, NoRoom}
 

@@ -3,7 +3,7 @@ ghost use mathlib.Core.Option.{some};
 ghost use Prim.Native.Nat.{_/_, _≤_};
 ghost use lib.ListN.{length};
 ghost use Rattle.hazard.specs.Limits.{mostCover};
-ghost use Rattle.answer_text.specs.Output.{mostOutput};
+ghost use Rattle.writing.specs.Output.{mostOutput};
 ghost use Rattle.quiet_text.specs.Answer.{writtenOf, Solved, Replied};
 use answer_text::reply::MOST_OUTPUT;
 use answer_text::reply::put_network;

@@ -1,6 +1,7 @@
 use native.Mathlib.Omega.{arith}
 use borrow.Author.Needs.{needs}
-use Rattle.answer_text.proofs.Replies.{number-next, lines-most, network-wrote}
+use Rattle.writing.proofs.Writing.{number-next}
+use Rattle.answer_text.proofs.Replies.{lines-most, network-wrote}
 use Rattle.answer_text.proofs.reply.put_network.Statement.{statement}
 use Rattle.answer_text.proofs.reply.put_network.Tie as tie
 

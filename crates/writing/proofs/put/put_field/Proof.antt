@@ -1,10 +1,9 @@
 use native.Mathlib.Omega.{arith}
 use lib.ListN.{length-set}
 use borrow.Author.Needs.{needs}
-use Rattle.answer_text.proofs.Writing.{wrote-byte, wrote-then}
-use Rattle.answer_text.proofs.Replies.{field-next}
-use Rattle.answer_text.proofs.put.put_field.Statement.{statement}
-use Rattle.answer_text.proofs.put.put_field.Tie as tie
+use Rattle.writing.proofs.Writing.{wrote-byte, wrote-then, field-next}
+use Rattle.writing.proofs.put.put_field.Statement.{statement}
+use Rattle.writing.proofs.put.put_field.Tie as tie
 
 slice-write-out : tie.Need-slice-write-out
 slice-write-out c = search needs

@@ -7,7 +7,10 @@ use native.Mathlib.Numerals.{add-one}
 use native.Mathlib.Omega.{arith}
 use lib.ListN.{length, getD, set, take, length-append}
 use lib.Seq.{sets, length-sets, take-suc, take-length}
-use Rattle.answer_text.specs.Wrote.{Wrote}
+use Rattle.problem_text.specs.Decimal.{decimal}
+use Rattle.writing.specs.Output.{field}
+use Rattle.writing.specs.Wrote.{Wrote}
+use Rattle.problem_text.proofs.Decimal.{spelled-length}
 
 -- Stores of two lists, one list after the other.
 pub sets-append : (l : List ℕ) (i : ℕ) (xs ys : List ℕ) → sets l i (xs ++ ys) ≡ sets (sets l i xs) (i + length xs) ys
@@ -35,6 +38,13 @@ wrote-long {before} {bytes = bytes} {at = at} p = ap length (p .is) ∙ length-s
 -- How far the next place is, at most.
 pub wrote-next : {before after bytes : List ℕ} {at next : ℕ} → Wrote before at bytes after next → (m : ℕ) → length bytes ≤ m → next ≤ at + m
 wrote-next p m h = omega (arith, p .place)
+
+-- A number takes at most 5 bytes, and a field at most 6.
+pub number-next : {before after : List ℕ} {at next : ℕ} (x : ℕ) → Wrote before at (decimal x) after next → next ≤ at + 5
+number-next x p = wrote-next p 5 (spelled-length 5 x)
+
+pub field-next : {before after : List ℕ} {at next : ℕ} (x : ℕ) → Wrote before at (field x) after next → next ≤ at + 6
+field-next x p = wrote-next p 6 (omega (arith, spelled-length 5 x))
 
 -- The first i bytes are written.
 pub record Writing (bytes before : List ℕ) (at : ℕ) (out : List ℕ) (i : ℕ) : Type 0 where

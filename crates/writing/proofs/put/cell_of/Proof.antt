@@ -1,8 +1,8 @@
 use borrow.Author.Needs.{needs}
 use native.Mathlib.Omega.{arith}
-use Rattle.answer_text.proofs.Printing.{cell-two}
-use Rattle.answer_text.proofs.put.cell_of.Statement.{statement}
-use Rattle.answer_text.proofs.put.cell_of.Tie as tie
+use Rattle.writing.proofs.Printing.{cell-two}
+use Rattle.writing.proofs.put.cell_of.Statement.{statement}
+use Rattle.writing.proofs.put.cell_of.Tie as tie
 
 returns : tie.Need-returns
 returns c = search needs

@@ -2,9 +2,9 @@ use mathlib.Core.Path.{_≡_}
 use Prim.Native.Nat.{_+_, _-_}
 use native.Mathlib.Omega.{arith}
 use borrow.Author.Needs.{needs}
-use Rattle.answer_text.proofs.Printing.{Printing, printing-start, printing-from, printing-room, printing-step, printing-end}
-use Rattle.answer_text.proofs.put.put_products.Statement.{statement}
-use Rattle.answer_text.proofs.put.put_products.Tie as tie
+use Rattle.writing.proofs.Printing.{Printing, printing-start, printing-from, printing-room, printing-step, printing-end}
+use Rattle.writing.proofs.put.put_products.Statement.{statement}
+use Rattle.writing.proofs.put.put_products.Tie as tie
 
 abbrev Inv-loop : tie.InvT-loop
 Inv-loop n count products out₀ at next₀ from₀ j₀ out next from j = Printing n products out₀ at count out next from j

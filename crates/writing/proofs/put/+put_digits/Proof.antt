@@ -1,15 +1,15 @@
 use native.Mathlib.Omega.{arith}
 use borrow.Author.Needs.{needs}
-use Rattle.answer_text.proofs.Writing.{wrote-byte, wrote-then}
+use Rattle.writing.proofs.Writing.{wrote-byte, wrote-then}
 use Rattle.problem_text.proofs.Decimal.{spelled-one, spelled-more, tens-below, two-digits, spelled-length}
 use Prim.Native.Nat.{ℕ, _+_, _-_, _/_, _%_, _<_}
 use borrow.Fn.Kinds.{In}
 use borrow.Fn.PlainCycle.{Measures, is, falls, and}
-use Rattle.answer_text.proofs.put.put_digits.Reads as put-digits
-use Rattle.answer_text.proofs.put.put_digits.Kinds as put-digits-kinds
-use Rattle.answer_text.proofs.put.+put_digits.Lts-put_digits as put-digits-lts
-use Rattle.answer_text.proofs.put.+put_digits.{statement}
-use Rattle.answer_text.proofs.put.+put_digits.Tie.{close}
+use Rattle.writing.proofs.put.put_digits.Reads as put-digits
+use Rattle.writing.proofs.put.put_digits.Kinds as put-digits-kinds
+use Rattle.writing.proofs.put.+put_digits.Lts-put_digits as put-digits-lts
+use Rattle.writing.proofs.put.+put_digits.{statement}
+use Rattle.writing.proofs.put.+put_digits.Tie.{close}
 
 abbrev μ-put-digits : Measures 1 put-digits-kinds.ps ℕ
 μ-put-digits κs a = a .0

@@ -5,9 +5,9 @@ use native.Mathlib.Omega.{arith}
 use lib.ListN.{length, length-map, List·getD-map}
 use borrow.Author.Needs.{needs}
 use Rattle.problem_text.specs.Form.{cell}
-use Rattle.answer_text.proofs.Writing.{Writing, writing-start, writing-step, writing-end, wrote-byte, wrote-then}
-use Rattle.answer_text.proofs.put.put_product.Statement.{statement}
-use Rattle.answer_text.proofs.put.put_product.Tie as tie
+use Rattle.writing.proofs.Writing.{Writing, writing-start, writing-step, writing-end, wrote-byte, wrote-then}
+use Rattle.writing.proofs.put.put_product.Statement.{statement}
+use Rattle.writing.proofs.put.put_product.Tie as tie
 
 abbrev Inv-loop : tie.InvT-loop
 Inv-loop product out₀ at i₀ out i = (i ≤ length product) × Writing (map cell product) out₀ at out i

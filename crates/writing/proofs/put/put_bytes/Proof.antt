@@ -3,9 +3,9 @@ use Prim.Native.Nat.{_-_}
 use native.Mathlib.Omega.{arith}
 use lib.ListN.{length}
 use borrow.Author.Needs.{needs}
-use Rattle.answer_text.proofs.Writing.{Writing, writing-start, writing-step, writing-end}
-use Rattle.answer_text.proofs.put.put_bytes.Statement.{statement}
-use Rattle.answer_text.proofs.put.put_bytes.Tie as tie
+use Rattle.writing.proofs.Writing.{Writing, writing-start, writing-step, writing-end}
+use Rattle.writing.proofs.put.put_bytes.Statement.{statement}
+use Rattle.writing.proofs.put.put_bytes.Tie as tie
 
 abbrev Inv-loop : tie.InvT-loop
 Inv-loop bytes out₀ at i₀ out i = Writing bytes out₀ at out i
