@@ -7,10 +7,10 @@ ghost use Rattle.hazard.specs.Search.{firstOf};
 ghost use Rattle.hazard.specs.Transition.{count};
 ghost use Rattle.hazard.specs.Refusal.{listCheck, endsCheck, listChecks};
 ghost use Rattle.refusal.specs.Answer.{checkedOf};
+use kinds::transition::end_of;
+use kinds::transition::start_of;
 use refusal::checked::Checked;
 use refusal::checked::refused;
-use sets::transition::end_of;
-use sets::transition::start_of;
 
 // 4: the list is empty, odd, or above 64 transitions.
 pub fn check_list(transitions: &[u16]) -> Checked

@@ -6,12 +6,12 @@ ghost use Rattle.sets.specs.Ready.{Listed};
 ghost use Rattle.refusal.specs.Answer.{checkedOf};
 ghost use Rattle.rules.specs.Fault.{definedIn};
 use cube::mask::span_of;
+use kinds::transition::end_of;
+use kinds::transition::start_of;
 use points::lowest::Found;
 use points::lowest::lowest_in;
 use refusal::checked::Checked;
 use refusal::checked::refused;
-use sets::transition::end_of;
-use sets::transition::start_of;
 
 // 6: a don't care in some [A,B]; the first such transition, the lowest point.
 pub fn check_defined(n: usize, transitions: &[u16], twos: &[u64]) -> Checked

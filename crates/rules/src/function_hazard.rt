@@ -8,7 +8,7 @@ ghost use Rattle.cube.specs.PointSet.{inSet};
 ghost use Rattle.points.specs.PointWord.{WordOf, PointsOf, masked};
 ghost use Rattle.points.specs.Plane.{Plane};
 ghost use Rattle.points.specs.Found.{foundOf};
-ghost use Rattle.sets.specs.Codes.{kindIs};
+ghost use Rattle.kinds.specs.Codes.{kindIs};
 ghost use Rattle.sets.specs.Ready.{Ready};
 ghost use Rattle.refusal.specs.Answer.{checkedOf};
 ghost use Rattle.rules.specs.Fault.{breaksIn, brokenIn};
@@ -16,15 +16,15 @@ use cube::mask::span_of;
 use cube::point::next;
 use cube::word_mask::low_mask;
 use cube::word_mask::word_cube;
+use kinds::kind::Kind;
+use kinds::kind::kind_of;
+use kinds::transition::end_of;
+use kinds::transition::start_of;
 use moves::turn::turning_points;
 use points::lowest::Found;
 use points::word::set_points;
 use refusal::checked::Checked;
 use refusal::checked::refused;
-use sets::kind::Kind;
-use sets::kind::kind_of;
-use sets::transition::end_of;
-use sets::transition::start_of;
 
 // The points of word w, under the mask, where the rule of the kind is broken: the wrong value (static), or the point before the wrong move
 // (dynamic).

@@ -3,20 +3,20 @@ use mathlib.Core.Path.{_≡_, refl, sym, ap, _∙_}
 use mathlib.Core.Bool.{Bool, true, false, cond}
 use mathlib.Core.List.{List, [], _∷_, _++_, map, append-assoc, append-nil, map-append}
 use mathlib.Core.Logic.{_≢_}
-use Prim.Native.Nat.{ℕ, zero, suc, _+_, _-_, _*_, _%_, _^_, _≤_, _<_}
+use Prim.Native.Nat.{ℕ, suc, _+_, _-_, _*_, _%_, _^_, _≤_, _<_}
 use native.Mathlib.Nat.{sub-zero, sub-eq-zero-of-le, one-mul, mod-eq-of-lt}
 use native.Mathlib.Numerals.{add-one}
 use native.Mathlib.Omega.{arith}
 use native.Mathlib.Decide.{ℕ-discrete}
 use lib.Bits.{bitXor}
-use lib.Count.{ones, trailingZeros}
+use lib.Count.{trailingZeros}
 use lib.ListN.{length, take, set, length-append, length-set, length-map}
-use lib.Pow.{pow-mono, pow-pos, pow-lt}
+use lib.Pow.{pow-mono, pow-lt}
 use lib.Seq.{take-suc-set, getD-set-same, getD-set-other}
 use Rattle.hazard.specs.Search.{those}
 use Rattle.hazard.specs.Cube.{flip}
 use Rattle.hazard.specs.Transition.{Kind, low, rise, fall, high, kind, start, end, count}
-use Rattle.hazard.specs.Sets.{Privileged, labels, maximalLabel, dynamic, startPoint, kindAt, requiredOf, requiredFrom, required, privilegedFrom}
+use Rattle.hazard.specs.Sets.{Privileged, labels, dynamic, startPoint, kindAt, requiredOf, requiredFrom, required, privilegedFrom}
 use Rattle.cube.specs.declared.mask.Cube.{Cube}
 use Rattle.cube.specs.Mask.{cubeOf}
 use Rattle.cube.specs.Next.{Next}
@@ -26,37 +26,9 @@ use Rattle.cube.proofs.ByWords.{lowest-bit}
 use Rattle.cube.proofs.Scan.{left}
 use Rattle.points.specs.PointWord.{WordOf, masked, pointsIn, Below}
 use Rattle.points.proofs.Walk.{Agrees, inWords, Visit, visit-word}
-use Rattle.points.proofs.Members.{ahead, ahead-word, ahead-start, ahead-more, ahead-end, points-count, points-none, points-more, cleared-less, cleared-below, lowest-below}
+use Rattle.points.proofs.Members.{ahead, ahead-word, ahead-start, ahead-more, ahead-end, points-none, points-more, cleared-less, cleared-below, lowest-below}
+use Rattle.kinds.proofs.Labels.{labels-few}
 use Rattle.sets.specs.Store.{Stored, Held, requiredTo, requiredFor, privilegedFor}
-
--- No more pass than there are.
-pub those-few : (test : ℕ → Bool) (from size : ℕ) → length (those test from size) ≤ size
-those-few test from zero = omega arith
-those-few test from (suc size) = go (test from) (those-few test (suc from) size)
-  where
-    go : (b : Bool) → length (those test (suc from) size) ≤ size → length {A = ℕ} (elim b [ true ↦ from ∷ those test (suc from) size | false ↦ those test (suc from) size ]) ≤ suc size
-    go true h = omega arith
-    go false h = omega arith
-
-pub labels-few : (n : ℕ) (f : List ℕ) (k : Kind) (a b : ℕ) → length (labels n f k a b) ≤ 2 ^ n
-labels-few n f low a b = omega arith
-labels-few n f rise a b = those-few (maximalLabel n f b a) 0 (2 ^ n)
-labels-few n f fall a b = those-few (maximalLabel n f a b) 0 (2 ^ n)
-labels-few n f high a b = pow-pos n
-
--- A loop over the words of a cube that counts the points that pass.
-pub record Tally (h : Cube) (m : ℕ) (test : ℕ → Bool) (w k total : ℕ) : Type 0 where
-  pub sum : k + length (ahead (inWords h m test) w) ≡ total
-
-pub tally-start : {h : Cube} {w : ℕ} → Visit h w → (m : ℕ) (test : ℕ → Bool) {like : ℕ → Bool} {size : ℕ} → Agrees (inWords h m test) like size → size ≤ 1024 → Tally h m test (h .value) 0 (length (those like 0 size))
-tally-start i m test a l = record { sum = omega (arith, ap length (ahead-start i m test a l)) }
-
-module _ {h : Cube} {m : ℕ} {test : ℕ → Bool} {w k total : ℕ} (s : Tally h m test w k total) where
-  pub tally-more : {v : ℕ} → Visit h w → Next 4 (cubeOf 4 h) w v → w < 16 → {r : ℕ} → WordOf (masked m test) w r → Tally h m test v (k + ones r) total
-  tally-more {v} i q l {r} p = record { sum = omega (arith, s .sum, ap length (ahead-more i q m test (visit-word i m test l p) l) ∙ length-append (pointsIn w r) (ahead (inWords h m test) v), points-count w r (p .small)) }
-
-  pub tally-end : {like : ℕ → Bool} {size : ℕ} → Agrees (inWords h m test) like size → size ≤ 64 * w → k ≡ total
-  tally-end a l = omega (arith, s .sum, ap length (ahead-end w a l))
 
 -- A loop over the transitions that counts their required cubes.
 pub record Counted (n : ℕ) (f ts : List ℕ) (t total : ℕ) : Type 0 where

@@ -1,4 +1,3 @@
-pub mod Coded
 pub mod Word
 pub mod Gather
 pub mod Parts

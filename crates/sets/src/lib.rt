@@ -1,7 +1,4 @@
 // The sets made from a table and transitions that the input rules let through.
-pub mod kind;
-pub mod label;
 pub mod privileged;
 pub mod required;
 pub mod sets;
-pub mod transition;

@@ -9,13 +9,13 @@ ghost use Rattle.hazard.specs.Sets.{dynamic, privileged};
 ghost use Rattle.cube.specs.Entry.{privilegedIn};
 ghost use Rattle.sets.specs.Ready.{Ready};
 ghost use Rattle.sets.specs.Store.{Stored, Held, privilegedFor};
-use crate::kind::is_dynamic;
-use crate::kind::kind_of;
-use crate::kind::start_point;
-use crate::transition::end_of;
-use crate::transition::start_of;
 use cube::entry::pack;
 use cube::mask::span_of;
+use kinds::kind::is_dynamic;
+use kinds::kind::kind_of;
+use kinds::kind::start_point;
+use kinds::transition::end_of;
+use kinds::transition::start_of;
 
 // The privileged cube of transition t from a to b, stored at a place where the transition is dynamic; the next place.
 fn store_privileged(

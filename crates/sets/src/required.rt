@@ -10,16 +10,16 @@ ghost use Rattle.points.specs.PointWord.{pointsIn, Below};
 ghost use Rattle.points.specs.Plane.{Plane};
 ghost use Rattle.sets.specs.Ready.{Ready};
 ghost use Rattle.sets.specs.Store.{Stored, Held, requiredTo, requiredFor};
-use crate::kind::Kind;
-use crate::kind::kind_of;
-use crate::label::count_labels;
-use crate::transition::end_of;
-use crate::transition::start_of;
 use cube::entry::pack;
 use cube::mask::span_of;
 use cube::point::next;
 use cube::word_mask::low_mask;
 use cube::word_mask::word_cube;
+use kinds::kind::Kind;
+use kinds::kind::kind_of;
+use kinds::label::count_labels;
+use kinds::transition::end_of;
+use kinds::transition::start_of;
 use moves::turn::last_points;
 
 // How many required cubes there are, by the points of value 1.

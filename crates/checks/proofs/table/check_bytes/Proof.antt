@@ -9,7 +9,7 @@ use Rattle.hazard.specs.Search.{first}
 use Rattle.hazard.specs.Transition.{value}
 use Rattle.hazard.specs.Refusal.{refusal}
 use Rattle.cube.proofs.Scan.{Scan, scan-start, scan-hit, scan-miss, scan-end}
-use Rattle.sets.proofs.Coded.{read-value}
+use Rattle.kinds.proofs.Coded.{read-value}
 use borrow.Author.Needs.{needs}
 use Rattle.checks.proofs.table.check_bytes.Statement.{statement}
 use Rattle.checks.proofs.table.check_bytes.Tie as tie

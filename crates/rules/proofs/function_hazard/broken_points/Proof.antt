@@ -3,8 +3,8 @@ use mathlib.Core.Bool.{Bool}
 use Prim.Native.Nat.{ℕ}
 use Rattle.cube.specs.PointSet.{inSet}
 use Rattle.points.specs.PointWord.{WordOf, masked}
-use Rattle.sets.specs.declared.kind.Kind.{Kind}
-use Rattle.sets.specs.Codes.{kindIs}
+use Rattle.kinds.specs.declared.kind.Kind.{Kind}
+use Rattle.kinds.specs.Codes.{kindIs}
 use Rattle.rules.specs.Fault.{breaksIn}
 use borrow.Author.Needs.{needs}
 use Rattle.rules.proofs.function_hazard.broken_points.Statement.{statement}

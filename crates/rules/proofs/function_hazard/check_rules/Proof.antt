@@ -9,7 +9,7 @@ use Rattle.hazard.specs.Refusal.{refusal}
 use Rattle.cube.proofs.Scan.{Places, places-start, places-hit, places-miss, places-end}
 use Rattle.points.specs.Found.{foundOf}
 use Rattle.points.proofs.Agree.{plane-points}
-use Rattle.sets.specs.Codes.{kindIs}
+use Rattle.kinds.specs.Codes.{kindIs}
 use Rattle.rules.proofs.Faults.{broken-is}
 use borrow.Author.Needs.{needs}
 use Rattle.rules.proofs.function_hazard.check_rules.Statement.{statement}

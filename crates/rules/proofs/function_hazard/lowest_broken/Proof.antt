@@ -8,7 +8,7 @@ use Rattle.hazard.specs.Cube.{has, span}
 use Rattle.cube.specs.PointSet.{inSet}
 use Rattle.points.proofs.Walk.{Agrees, inWords, Visit, visit-start, visit-word, visit-gap, visit-next, Looked, looked-start, looked-more, looked-within, looked-hit, looked-end}
 use Rattle.points.proofs.Agree.{stands-ten, agrees}
-use Rattle.sets.specs.Codes.{kindIs}
+use Rattle.kinds.specs.Codes.{kindIs}
 use Rattle.rules.specs.Fault.{breaksIn}
 use Rattle.rules.proofs.Faults.{breaks-agree}
 use borrow.Author.Needs.{needs}

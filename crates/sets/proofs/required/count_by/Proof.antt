@@ -6,7 +6,8 @@ use lib.Pow.{pow-mono}
 use Rattle.hazard.specs.Transition as spec
 use Rattle.hazard.specs.Transition.{start, end, kind}
 use Rattle.hazard.specs.Sets.{labels, kindAt}
-use Rattle.sets.proofs.Gather.{labels-few, Counted, counted-start, counted-more, counted-end}
+use Rattle.kinds.proofs.Labels.{labels-few}
+use Rattle.sets.proofs.Gather.{Counted, counted-start, counted-more, counted-end}
 use borrow.Author.Needs.{needs}
 use Rattle.sets.proofs.required.count_by.Statement.{statement}
 use Rattle.sets.proofs.required.count_by.Tie as tie

@@ -1,7 +1,7 @@
 use mathlib.Core.Path.{_≡_, sym, ap, _∙_}
 use native.Mathlib.Omega.{arith}
 use Rattle.hazard.specs.Transition.{kind}
-use Rattle.sets.specs.Codes.{kindIs}
+use Rattle.kinds.specs.Codes.{kindIs}
 use Rattle.sets.proofs.Gather.{for-size, for-is, stored-none, stored-as}
 use borrow.Author.Needs.{needs}
 use Rattle.sets.proofs.required.transition_into.Statement.{statement}

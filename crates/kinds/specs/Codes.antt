@@ -1,7 +1,7 @@
 -- The definitions' kinds, for the code's.
 use Rattle.hazard.specs.Transition as spec
-use Rattle.sets.specs.declared.kind.Kind.{Kind}
-use Rattle.sets.specs.declared.kind.Kind.the-variants.{Low, Rise, Fall, High}
+use Rattle.kinds.specs.declared.kind.Kind.{Kind}
+use Rattle.kinds.specs.declared.kind.Kind.the-variants.{Low, Rise, Fall, High}
 
 abbrev pub kindIs : Kind → spec.Kind
 kindIs Low = spec.low

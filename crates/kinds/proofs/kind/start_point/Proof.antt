@@ -1,6 +1,6 @@
 use borrow.Author.Needs.{needs}
-use Rattle.sets.proofs.kind.start_point.Statement.{statement}
-use Rattle.sets.proofs.kind.start_point.Tie as tie
+use Rattle.kinds.proofs.kind.start_point.Statement.{statement}
+use Rattle.kinds.proofs.kind.start_point.Tie as tie
 
 enum-told : tie.Need-enum-told
 enum-told c = search needs

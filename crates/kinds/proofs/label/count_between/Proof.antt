@@ -11,10 +11,10 @@ use Rattle.points.proofs.Walk.{Agrees, inWords, Visit, visit-start, visit-next}
 use Rattle.points.proofs.Agree.{stands-ten, agrees}
 use Rattle.moves.specs.Turn.{lasts}
 use Rattle.moves.proofs.Agree.{lasts-agree}
-use Rattle.sets.proofs.Gather.{Tally, tally-start, tally-more, tally-end, those-few}
+use Rattle.kinds.proofs.Labels.{Tally, tally-start, tally-more, tally-end, those-few}
 use borrow.Author.Needs.{needs}
-use Rattle.sets.proofs.label.count_between.Statement.{statement}
-use Rattle.sets.proofs.label.count_between.Tie as tie
+use Rattle.kinds.proofs.label.count_between.Statement.{statement}
+use Rattle.kinds.proofs.label.count_between.Tie as tie
 
 abbrev Inv-loop : tie.InvT-loop
 Inv-loop n table ones s e m h words k₀ w₀ k w =

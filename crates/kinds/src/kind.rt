@@ -4,7 +4,7 @@ ghost use Prim.Native.Nat.{_<_};
 ghost use lib.ListN.{length};
 ghost use Rattle.hazard.specs.Transition.{kind};
 ghost use Rattle.hazard.specs.Sets.{dynamic, startPoint};
-ghost use Rattle.sets.specs.Codes.{kindIs};
+ghost use Rattle.kinds.specs.Codes.{kindIs};
 
 // 0 to 0 (static low), 0 to 1 (rise), 1 to 0 (fall), 1 to 1 (static high).
 pub enum Kind {

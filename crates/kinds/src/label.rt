@@ -5,7 +5,7 @@ ghost use lib.ListN.{length};
 ghost use Rattle.hazard.specs.Search.{those};
 ghost use Rattle.hazard.specs.Sets.{maximalLabel, labels};
 ghost use Rattle.points.specs.Plane.{Plane};
-ghost use Rattle.sets.specs.Codes.{kindIs};
+ghost use Rattle.kinds.specs.Codes.{kindIs};
 use crate::kind::Kind;
 use cube::mask::span_of;
 use cube::point::next;

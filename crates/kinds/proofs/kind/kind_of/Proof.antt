@@ -2,10 +2,10 @@ use mathlib.Core.Path.{_≡_, sym, ap, _∙_}
 use Prim.Native.Nat.{_+_, _*_}
 use native.Mathlib.Omega.{arith}
 use Rattle.hazard.specs.Transition.{kindOf, value}
-use Rattle.sets.proofs.Coded.{code-at, kind-high}
+use Rattle.kinds.proofs.Coded.{code-at, kind-high}
 use borrow.Author.Needs.{needs}
-use Rattle.sets.proofs.kind.kind_of.Statement.{statement}
-use Rattle.sets.proofs.kind.kind_of.Tie as tie
+use Rattle.kinds.proofs.kind.kind_of.Statement.{statement}
+use Rattle.kinds.proofs.kind.kind_of.Tie as tie
 
 shared-slice-read-wide : tie.Need-shared-slice-read-wide
 shared-slice-read-wide c = search needs

@@ -3,11 +3,11 @@ use mathlib.Core.List.{List}
 use Prim.Native.Nat.{ℕ}
 use lib.ListN.{length}
 use Rattle.hazard.specs.Sets.{labels}
-use Rattle.sets.specs.declared.kind.Kind.{Kind}
-use Rattle.sets.specs.Codes.{kindIs}
+use Rattle.kinds.specs.declared.kind.Kind.{Kind}
+use Rattle.kinds.specs.Codes.{kindIs}
 use borrow.Author.Needs.{needs}
-use Rattle.sets.proofs.label.count_labels.Statement.{statement}
-use Rattle.sets.proofs.label.count_labels.Tie as tie
+use Rattle.kinds.proofs.label.count_labels.Statement.{statement}
+use Rattle.kinds.proofs.label.count_labels.Tie as tie
 
 enum-told : tie.Need-enum-told
 enum-told c = search needs
