@@ -13,7 +13,7 @@ use Rattle.hazard.specs.Sets.{required}
 use Rattle.hazard.proofs.Search.{firstOf-none, entries, firstOf-append}
 use Rattle.hazard.proofs.Rules.{inputs-few, length-whole, list-few, ends-within}
 use Rattle.points.specs.Plane.{Plane}
-use Rattle.sets.specs.Ready.{Ready}
+use Rattle.kinds.specs.Ready.{Ready}
 use Rattle.refusal.specs.Answer.{refusalOf}
 use Rattle.refusal.specs.declared.refusal.Refusal.{Refusal}
 use Rattle.checks.specs.Answer.{formChecks, CountedBy, Answer}

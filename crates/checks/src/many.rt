@@ -1,7 +1,7 @@
 // Check 8.
 ghost use Rattle.hazard.specs.Refusal.{manyCheck};
 ghost use Rattle.points.specs.Plane.{Plane};
-ghost use Rattle.sets.specs.Ready.{Ready};
+ghost use Rattle.kinds.specs.Ready.{Ready};
 ghost use Rattle.checks.specs.Answer.{CountedBy};
 use hazard::limits::MOST_REQUIRED;
 use refusal::refusal::Refusal;

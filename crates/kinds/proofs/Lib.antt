@@ -1,2 +1,3 @@
 pub mod Coded
 pub mod Labels
+pub mod Ready

@@ -6,7 +6,7 @@ ghost use Rattle.hazard.specs.Limits.{mostRequired};
 ghost use Rattle.hazard.specs.Sets as sets;
 ghost use Rattle.hazard.specs.Transition as transition;
 ghost use Rattle.points.specs.Plane.{Plane};
-ghost use Rattle.sets.specs.Ready.{Ready};
+ghost use Rattle.kinds.specs.Ready.{Ready};
 ghost use Rattle.selection.specs.Answer.{minimisedOf, Answered};
 ghost use Rattle.minimiser.specs.Room.{Room, Columns};
 use blocks::fill::blocks_into;

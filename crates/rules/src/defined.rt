@@ -2,7 +2,7 @@
 ghost use mathlib.Core.Path.{_≡_};
 ghost use lib.ListN.{length};
 ghost use Rattle.cube.specs.PointSet.{inSet};
-ghost use Rattle.sets.specs.Ready.{Listed};
+ghost use Rattle.kinds.specs.Ready.{Listed};
 ghost use Rattle.refusal.specs.Answer.{checkedOf};
 ghost use Rattle.rules.specs.Fault.{definedIn};
 use cube::mask::span_of;

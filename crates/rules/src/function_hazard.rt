@@ -9,7 +9,7 @@ ghost use Rattle.points.specs.PointWord.{WordOf, PointsOf, masked};
 ghost use Rattle.points.specs.Plane.{Plane};
 ghost use Rattle.points.specs.Found.{foundOf};
 ghost use Rattle.kinds.specs.Codes.{kindIs};
-ghost use Rattle.sets.specs.Ready.{Ready};
+ghost use Rattle.kinds.specs.Ready.{Ready};
 ghost use Rattle.refusal.specs.Answer.{checkedOf};
 ghost use Rattle.rules.specs.Fault.{breaksIn, brokenIn};
 use cube::mask::span_of;

@@ -3,7 +3,7 @@ ghost use mathlib.Core.Path.{_≡_};
 ghost use Rattle.hazard.specs.Search.{firstOf};
 ghost use Rattle.hazard.specs.Refusal.{pointsChecks};
 ghost use Rattle.points.specs.Plane.{Planes};
-ghost use Rattle.sets.specs.Ready.{Ready};
+ghost use Rattle.kinds.specs.Ready.{Ready};
 ghost use Rattle.refusal.specs.Answer.{checkedOf};
 use crate::defined::check_defined;
 use crate::function_hazard::check_rules;

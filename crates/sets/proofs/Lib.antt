@@ -1,4 +1,3 @@
 pub mod Word
 pub mod Gather
 pub mod Parts
-pub mod Ready

@@ -7,7 +7,7 @@ ghost use lib.ListN.{length};
 ghost use Rattle.hazard.specs.Transition.{kind};
 ghost use Rattle.hazard.specs.Sets.{dynamic, privileged};
 ghost use Rattle.cube.specs.Entry.{privilegedIn};
-ghost use Rattle.sets.specs.Ready.{Ready};
+ghost use Rattle.kinds.specs.Ready.{Ready};
 ghost use Rattle.sets.specs.Store.{Stored, Held, privilegedFor};
 use cube::entry::pack;
 use cube::mask::span_of;

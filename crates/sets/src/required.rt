@@ -8,7 +8,7 @@ ghost use Rattle.hazard.specs.Sets.{maximalLabel, required};
 ghost use Rattle.cube.specs.Entry.{requiredIn};
 ghost use Rattle.points.specs.PointWord.{pointsIn, Below};
 ghost use Rattle.points.specs.Plane.{Plane};
-ghost use Rattle.sets.specs.Ready.{Ready};
+ghost use Rattle.kinds.specs.Ready.{Ready};
 ghost use Rattle.sets.specs.Store.{Stored, Held, requiredTo, requiredFor};
 use cube::entry::pack;
 use cube::mask::span_of;

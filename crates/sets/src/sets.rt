@@ -3,7 +3,7 @@ ghost use Prim.Native.Nat.{_≤_};
 ghost use lib.ListN.{length};
 ghost use Rattle.hazard.specs.Sets as sets;
 ghost use Rattle.points.specs.Plane.{Plane};
-ghost use Rattle.sets.specs.Ready.{Ready};
+ghost use Rattle.kinds.specs.Ready.{Ready};
 ghost use Rattle.sets.specs.Store.{StoredSets};
 use crate::privileged::privileged_into;
 use crate::required::required_by;

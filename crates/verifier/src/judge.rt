@@ -6,7 +6,7 @@ ghost use Rattle.hazard.specs.Limits.{mostRequired, mostProducts};
 ghost use Rattle.hazard.specs.Sets as sets;
 ghost use Rattle.hazard.specs.Verdict as spec;
 ghost use Rattle.points.specs.Plane.{Plane};
-ghost use Rattle.sets.specs.Ready.{Ready};
+ghost use Rattle.kinds.specs.Ready.{Ready};
 ghost use Rattle.rows.specs.Sets.{Fits};
 ghost use Rattle.conditions.specs.Answer.{verdictOf};
 ghost use Rattle.conditions.specs.Network.{Sound};

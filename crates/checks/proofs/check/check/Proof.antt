@@ -2,10 +2,10 @@ use mathlib.Core.Path.{_∙_}
 use mathlib.Core.List.{[], _∷_, _++_}
 use Rattle.hazard.specs.Refusal.{pointsChecks, manyCheck}
 use Rattle.hazard.proofs.Search.{firstOf-one}
-use Rattle.sets.specs.Ready.{Ready}
+use Rattle.kinds.specs.Ready.{Ready}
 use Rattle.refusal.proofs.Checks.{passed, run-refused, run-passed}
 use Rattle.checks.specs.Answer.{formChecks}
-use Rattle.sets.proofs.Ready.{ready-few}
+use Rattle.kinds.proofs.Ready.{ready-few}
 use Rattle.checks.proofs.Checks.{form-ready, answer-filled}
 use borrow.Author.Needs.{needs}
 use Rattle.checks.proofs.check.check.Statement.{statement}

@@ -2,7 +2,7 @@ use mathlib.Core.Path.{_∙_, sym}
 use mathlib.Core.List.{[], _∷_}
 use Rattle.hazard.specs.Refusal.{definedCheck, rulesCheck}
 use Rattle.refusal.proofs.Checks.{run-stays, run-passed, alone}
-use Rattle.sets.proofs.Ready.{ready-listed}
+use Rattle.kinds.proofs.Ready.{ready-listed}
 use Rattle.rules.proofs.Faults.{defined-is}
 use borrow.Author.Needs.{needs}
 use Rattle.rules.proofs.run.points_checks.Statement.{statement}

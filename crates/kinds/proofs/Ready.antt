@@ -3,7 +3,7 @@ use Prim.Native.Nat.{ℕ, _≤_}
 use mathlib.Core.List.{List}
 use lib.ListN.{length}
 use lib.Pow.{pow-mono}
-use Rattle.sets.specs.Ready.{Ready, Listed}
+use Rattle.kinds.specs.Ready.{Ready, Listed}
 
 -- Its table has at most 1,024 points.
 pub ready-few : {n : ℕ} {f ts : List ℕ} → Ready n f ts → length f ≤ 1024
