@@ -11,14 +11,15 @@ use lib.Dec.{eqb}
 use lib.ListN.{length, getD, take, drop, set, length-set, length-take, length-drop}
 use lib.Seq.{getD-set-same, getD-set-other, getD-take, getD-drop}
 use Rattle.hazard.specs.Cube.{bit}
+use Rattle.cube.specs.Mask.{digitAt}
 use Rattle.cube.specs.declared.mask.Cube.{Cube}
 use Rattle.columns.specs.Relation.{allows, relates}
-use Rattle.columns.specs.Table.{AllowedAt}
+use Rattle.columns.specs.Allowing.{AllowedAt}
 use Rattle.columns.specs.declared.relation.Relation.{Relation}
 use Rattle.columns.specs.declared.relation.Allowed.{Allowed}
-use Rattle.columns.proofs.Narrowing.{upto, relates-upto, digit-lt}
+use Rattle.columns.proofs.Relating.{upto, relates-upto, digit-lt}
 use Rattle.blocks.proofs.Places.{run-fits, place-same}
-use Rattle.blocks.specs.Blocks.{digitAt, stride, runOf, wordAt, allowed, allowedTo, Blocks, BlockEnd, BlockFilled}
+use Rattle.blocks.specs.Blocks.{stride, runOf, wordAt, allowed, allowedTo, Blocks, BlockEnd, BlockFilled}
 
 pub block-start : (rel : Relation) (rows : List ℕ) (b : ℕ) (columns : List ℕ) → BlockFilled rel 0 rows b columns columns
 block-start rel rows b columns = record { long = refl; is = λ i d k h. absurd (omega arith); others = λ i d a h ne. refl }

@@ -8,14 +8,10 @@ use lib.Dec.{eqb}
 use lib.ListN.{length, getD}
 use Rattle.hazard.specs.Cube as digits
 use Rattle.hazard.specs.Cube.{bit}
-use Rattle.cube.specs.Mask.{digit, cubeOf}
+use Rattle.cube.specs.Mask.{digitAt, cubeOf}
 use Rattle.cube.specs.declared.mask.Cube.{Cube}
 use Rattle.columns.specs.Relation.{allows}
 use Rattle.columns.specs.declared.relation.Relation.{Relation}
-
--- The digit of input i.
-abbrev pub digitAt : Cube → ℕ → ℕ
-digitAt c i = digit (bit (c .care) i) (bit (c .value) i)
 
 -- How many blocks the columns have room for: a block has a word for each of ten inputs and three digits.
 abbrev pub stride : List ℕ → ℕ

@@ -1,4 +1,4 @@
-// What was covered, and each kind of disagreement: one count each.
+// What was covered, and each kind of disagreement: one count each, in the order of the report.
 pub const MINIMISED: usize = 0;
 
 pub const LARGE: usize = 1;
@@ -9,15 +9,15 @@ pub const REFUSED_6: usize = 3;
 
 pub const REFUSED_7: usize = 4;
 
-pub const STEPS_1: usize = 5;
+pub const DROPPED: usize = 5;
 
-pub const STEPS_2: usize = 6;
+pub const STEPS_1: usize = 6;
 
-pub const STEPS_3: usize = 7;
+pub const STEPS_2: usize = 7;
 
-pub const SETS: usize = 8;
+pub const STEPS_3: usize = 8;
 
-pub const DROPPED: usize = 9;
+pub const SETS: usize = 9;
 
 pub const REFUSED: usize = 10;
 

@@ -1,7 +1,9 @@
 // The faults that the verifier names, straight from their words.
 use crate::instance::Instance;
+use crate::instance::Named;
 use crate::instance::between;
 use crate::instance::end;
+use crate::instance::nothing;
 use crate::instance::start;
 use crate::network::Network;
 use crate::network::Product;
@@ -11,31 +13,14 @@ use crate::network::product_at;
 use crate::network::product_of;
 use crate::network::products_of;
 
-pub enum Fault {
-    // a product, and a point or a transition
-    At(u64, u64),
-    Nothing,
-}
-
 // The lowest point of a set, or 16.
 pub(crate) fn lowest(set: u64) -> u64 {
-    for x in 0..16u64 {
-        if has(set, x) {
-            return x;
-        }
-    }
-    16
+    let first = u64::trailing_zeros(set);
+    if first < 16 { first as u64 } else { 16 }
 }
 
-// The first product that contains a 0, and its lowest.
-pub(crate) fn zero_held(p: Instance, net: Network) -> Fault {
-    for j in 0..net.count {
-        let x = lowest(points(product_at(net, j)) & p.zeros);
-        if x < 16 {
-            return Fault::At(j, x);
-        }
-    }
-    Fault::Nothing
+pub(crate) fn holds_no_zero(p: Instance, q: Product) -> bool {
+    points(q) & p.zeros == 0
 }
 
 // Whether a product with these points shares one with [A,B] of a dynamic transition and lacks the start point.
@@ -89,15 +74,29 @@ pub(crate) fn inside_legal(p: Instance, q: Product) -> bool {
     false
 }
 
-// The first product that intersects a privileged cube illegally, and the first transition whose cube it is.
-pub(crate) fn illegal_intersection(p: Instance, net: Network) -> Fault {
+// What is wrong with a product that has these points: by verdict 2 the lowest 0 among them, by verdict 3 the first transition with which
+// it has an illegal intersection; 16 where nothing is.
+fn fault_at(p: Instance, number: u64, held: u64) -> u64 {
+    if number == 2 {
+        return lowest(held & p.zeros);
+    }
+    let k = first_illegal(p, held);
+    if k < p.count { k } else { 16 }
+}
+
+// The first product with such a fault.
+pub(crate) fn first_faulty(p: Instance, net: Network, number: u64) -> Named {
     for j in 0..net.count {
-        let k = first_illegal(p, points(product_at(net, j)));
-        if k < p.count {
-            return Fault::At(j, k);
+        let x = fault_at(p, number, points(product_at(net, j)));
+        if x < 16 {
+            return Named {
+                number,
+                first: j,
+                second: x,
+            };
         }
     }
-    Fault::Nothing
+    nothing()
 }
 
 // Whether x lies in [A,B] of transition k and has the value 1.

@@ -3,6 +3,7 @@ ghost use Prim.Native.Nat.{_≤_};
 use crate::network::Product;
 use crate::network::bit;
 use crate::network::has;
+use crate::network::nibble;
 use crate::network::points;
 
 pub struct Instance {
@@ -52,16 +53,17 @@ pub(crate) fn point_from(n: u64, x: u64) -> u64 {
     x % 16
 }
 
+// The number at a place of the list: A at even places, B at odd ones.
+pub(crate) fn end_at(p: Instance, i: u64) -> u64 {
+    nibble(p.list, i)
+}
+
 pub(crate) fn start(p: Instance, k: u64) -> u64 {
-    if k < 8 { (p.list >> (k * 8)) & 15 } else { 0 }
+    if k < 8 { nibble(p.list, k * 2) } else { 0 }
 }
 
 pub(crate) fn end(p: Instance, k: u64) -> u64 {
-    if k < 8 {
-        (p.list >> (k * 8 + 4)) & 15
-    } else {
-        0
-    }
+    if k < 8 { nibble(p.list, k * 2 + 1) } else { 0 }
 }
 
 // The points of [A,B].
@@ -140,11 +142,29 @@ fn fails(number: u64, p: Instance, k: u64, x: u64) -> bool {
     breaks(p, a, b, x)
 }
 
-// A refusal's number, transition and point; the number 0 where nothing is refused.
-pub struct Refused {
+// A refusal's number, transition and point, or a verdict's number and its two fields; the number 0 where there is neither.
+pub struct Named {
     pub number: u64,
-    pub transition: u64,
-    pub point: u64,
+    pub first: u64,
+    pub second: u64,
+}
+
+pub(crate) fn nothing() -> Named {
+    Named {
+        number: 0,
+        first: 0,
+        second: 0,
+    }
+}
+
+pub(crate) fn same(a: Named, b: Named) -> bool {
+    if a.number != b.number {
+        return false;
+    }
+    if a.first != b.first {
+        return false;
+    }
+    a.second == b.second
 }
 
 // The lowest point of transition k that the check with this number refuses, or 16.
@@ -157,26 +177,22 @@ fn lowest(number: u64, p: Instance, k: u64) -> u64 {
     16
 }
 
-fn refused_by(number: u64, p: Instance) -> Refused {
+fn refused_by(number: u64, p: Instance) -> Named {
     for k in 0..p.count {
         let x = lowest(number, p, k);
         if x < 16 {
-            return Refused {
+            return Named {
                 number,
-                transition: k,
-                point: x,
+                first: k,
+                second: x,
             };
         }
     }
-    Refused {
-        number: 0,
-        transition: 0,
-        point: 0,
-    }
+    nothing()
 }
 
 // Check 6 for all transitions, then check 7.
-pub(crate) fn first_refused(p: Instance) -> Refused {
+pub(crate) fn first_refused(p: Instance) -> Named {
     let six = refused_by(6, p);
     if six.number != 0 {
         return six;

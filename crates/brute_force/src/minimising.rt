@@ -1,7 +1,6 @@
 // The minimiser against the counterpart.
-use crate::bytes::length_of;
-use crate::bytes::marked;
 use crate::bytes::network_from;
+use crate::calls::answer_to;
 use crate::counts::ACCEPTANCE;
 use crate::counts::BUFFER;
 use crate::counts::DROPPABLE;
@@ -21,7 +20,6 @@ use crate::counts::REFUSED_7;
 use crate::counts::STEPS_1;
 use crate::counts::STEPS_2;
 use crate::counts::STEPS_3;
-use crate::counts::TOO_WIDE;
 use crate::counts::add;
 use crate::counts::expect;
 use crate::faults::inside_legal;
@@ -30,39 +28,23 @@ use crate::instance::first_refused;
 use crate::network::Network;
 use crate::network::product_at;
 use crate::network::without;
-use crate::required::names_blocked;
+use crate::required::blocks_at;
 use crate::trying::some_hazard_free;
+use crate::verifying::expect_hazard_free;
 use crate::verifying::passes;
+use crate::verifying::refuses;
 use crate::verifying::same_refusal;
-use crate::wires::Found;
-use crate::wires::hazard_free;
-use minimiser::minimise::minimise;
 use refusal::refusal::Refusal;
 use selection::minimised::Minimised;
-
-// What the buffer holds before the call.
-const MARK: u8 = 9;
+use testing::marks::MARK;
+use testing::marks::is_marked;
+use testing::products::bytes_of;
 
 // Which way an instance went.
 pub enum Answer {
     Refused,
     None,
     Made(Network),
-}
-
-// Whether it is hazard-free is as expected, unless it was too wide to be tried.
-fn expect_hazard_free(
-    p: Instance,
-    net: Network,
-    wanted: bool,
-    which: usize,
-    counts: &mut [u64; LEN],
-) {
-    match hazard_free(p, net) {
-        Found::HazardFree => expect(counts, which, wanted),
-        Found::Hazard => expect(counts, which, !wanted),
-        Found::TooWide => add(counts, TOO_WIDE),
-    }
 }
 
 // Without any one product the network is not hazard-free, and none lies inside a larger legal one.
@@ -87,23 +69,13 @@ fn minimal(p: Instance, net: Network, count: usize, counts: &mut [u64; LEN]) {
 }
 
 // What the minimiser wrote: a minimal network that the verifier passes, and no byte more.
-fn made(
-    p: Instance,
-    table: &[u8],
-    transitions: &[u16],
-    cover: &[u8],
-    count: usize,
-    counts: &mut [u64; LEN],
-) -> Answer {
+fn made(p: Instance, cover: &[u8], count: usize, counts: &mut [u64; LEN]) -> Answer {
     let n = p.n as usize;
     let net = network_from(n, cover, count);
     minimal(p, net, count, counts);
-    let end = length_of(n, count);
-    expect(counts, PAST_THE_END, marked(cover, end, MARK));
-    if end <= cover.len() {
-        let passed = passes(n, table, transitions, &cover[0..end]);
-        expect(counts, NOT_PASSED, passed);
-    }
+    let end = bytes_of(n, count, cover);
+    expect(counts, PAST_THE_END, is_marked(cover, end));
+    expect(counts, NOT_PASSED, passes(p, &cover[0..end]));
     Answer::Made(net)
 }
 
@@ -118,6 +90,20 @@ fn count_of_steps(steps: u16) -> usize {
         return STEPS_3;
     }
     LEN
+}
+
+// Whether a refusal 10 names the first cube that blocks.
+fn names_blocked(p: Instance, r: Refusal) -> bool {
+    if r.product != 0 {
+        return false;
+    }
+    blocks_at(
+        p,
+        r.transition as u64,
+        r.point as u64,
+        r.steps as u64,
+        r.lowest as u64,
+    )
 }
 
 // Refusal 10: no set of products is hazard-free, and the fields name the first cube that blocks.
@@ -141,30 +127,30 @@ fn count_of_refusal(number: u16) -> usize {
     LEN
 }
 
-// A refusal by check 6 or 7, as the counterpart has it.
+// A refusal by check 6 or 7, as the counterpart has it, and by both calls.
 fn declined(p: Instance, r: Refusal, counts: &mut [u64; LEN]) -> Answer {
     add(counts, count_of_refusal(r.number));
-    expect(counts, ACCEPTANCE, same_refusal(first_refused(p), r));
+    let own = first_refused(p);
+    expect(counts, ACCEPTANCE, same_refusal(own, r));
+    refuses(p, own, counts);
     Answer::Refused
 }
 
-// An instance through the minimiser; the table and the transitions are its bytes.
-pub(crate) fn minimises(
-    p: Instance,
-    table: &[u8],
-    transitions: &[u16],
-    counts: &mut [u64; LEN],
-) -> Answer {
+// A refusal, after which the buffer is as it was.
+fn refused(p: Instance, r: Refusal, cover: &[u8], counts: &mut [u64; LEN]) -> Answer {
+    expect(counts, BUFFER, is_marked(cover, 0));
+    if r.number == 10 {
+        none(p, r, counts)
+    } else {
+        declined(p, r, counts)
+    }
+}
+
+// An instance through the minimiser.
+pub(crate) fn minimises(p: Instance, counts: &mut [u64; LEN]) -> Answer {
     let mut cover = [MARK; 256];
-    match minimise(p.n as usize, table, transitions, &mut cover) {
-        Minimised::Products(count) => made(p, table, transitions, &cover, count, counts),
-        Minimised::Refused(r) => {
-            expect(counts, BUFFER, marked(&cover, 0, MARK));
-            if r.number == 10 {
-                none(p, r, counts)
-            } else {
-                declined(p, r, counts)
-            }
-        }
+    match answer_to(p, &mut cover) {
+        Minimised::Products(count) => made(p, &cover, count, counts),
+        Minimised::Refused(r) => refused(p, r, &cover, counts),
     }
 }

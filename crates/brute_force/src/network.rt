@@ -60,14 +60,15 @@ pub(crate) fn push(net: Network, p: Product) -> Network {
     }
 }
 
+// The nibble i of a word; 0 past the last.
+pub(crate) fn nibble(word: u64, i: u64) -> u64 {
+    if i < 16 { (word >> (i * 4)) & 15 } else { 0 }
+}
+
 pub(crate) fn product_at(net: Network, j: u64) -> Product {
-    if 16 <= j {
-        return Product { care: 0, value: 0 };
-    }
-    let s = j * 4;
     Product {
-        care: (net.care >> s) & 15,
-        value: (net.value >> s) & 15,
+        care: nibble(net.care, j),
+        value: nibble(net.value, j),
     }
 }
 
@@ -93,22 +94,33 @@ pub(crate) fn products_of(n: u64) -> u64 {
     81
 }
 
+// The product with a literal on input i more: 0 inverted, 1 plain, and any other digit none.
+pub(crate) fn with_literal(p: Product, i: u64, digit: u64) -> Product {
+    let b = bit(i);
+    if digit == 0 {
+        return Product {
+            care: p.care | b,
+            value: p.value,
+        };
+    }
+    if digit == 1 {
+        return Product {
+            care: p.care | b,
+            value: p.value | b,
+        };
+    }
+    p
+}
+
 // The product of n inputs with the code's digits in base three as its bytes, input 0 first.
 pub(crate) fn product_of(n: u64, code: u64) -> Product {
     let mut rest = code;
-    let mut care = 0;
-    let mut value = 0;
+    let mut p = Product { care: 0, value: 0 };
     for i in 0..n {
-        let digit = rest % 3;
-        if digit < 2 {
-            care |= bit(i);
-        }
-        if digit == 1 {
-            value |= bit(i);
-        }
+        p = with_literal(p, i, rest % 3);
         rest /= 3;
     }
-    Product { care, value }
+    p
 }
 
 // The points of a product among the first 16.

@@ -1,27 +1,28 @@
 // Required cubes and their growth, straight from their words: only for the fields that a refusal or a fault names.
-use crate::faults::Fault;
 use crate::faults::first_illegal;
 use crate::faults::lowest;
 use crate::faults::one_of;
 use crate::instance::Instance;
-use crate::instance::between;
+use crate::instance::Named;
 use crate::instance::end;
+use crate::instance::nothing;
+use crate::instance::same;
 use crate::instance::start;
 use crate::instance::turns;
 use crate::network::Network;
 use crate::network::Product;
+use crate::network::empty;
 use crate::network::has;
 use crate::network::points;
 use crate::network::product_at;
-use refusal::refusal::Refusal;
 
 // Whether x labels a required cube of transition k.
 fn is_label(p: Instance, k: u64, x: u64) -> bool {
-    let a = start(p, k);
-    let b = end(p, k);
-    if !has(between(a, b) & p.ones, x) {
+    if !one_of(p, k, x) {
         return false;
     }
+    let a = start(p, k);
+    let b = end(p, k);
     if !has(p.ones, a) {
         return !turns(p, b, a, x);
     }
@@ -61,61 +62,27 @@ fn joined(q: Product, x: u64) -> Product {
     }
 }
 
-pub enum Blocked {
-    // the transition, the label, the steps and the lowest 0
-    At(u64, u64, u64, u64),
-    Nothing,
-}
-
-// The growth of the required cube of transition k with label x. A start point frees an input, so five turns are enough.
-fn growth(p: Instance, k: u64, x: u64) -> Blocked {
+// The growth of the required cube of transition k with label x. If it blocks, 10, the steps and the lowest 0. A start point frees an
+// input, so five turns are enough.
+fn growth(p: Instance, k: u64, x: u64) -> Named {
     let mut q = required(p, k, x);
     for steps in 0..5u64 {
         let held = points(q);
         let zero = lowest(held & p.zeros);
         if zero < 16 {
-            return Blocked::At(k, x, steps, zero);
+            return Named {
+                number: 10,
+                first: steps,
+                second: zero,
+            };
         }
         let met = first_illegal(p, held);
         if p.count <= met {
-            return Blocked::Nothing;
+            return nothing();
         }
         q = joined(q, start_point(p, met));
     }
-    Blocked::Nothing
-}
-
-// The first required cube that blocks, by transition and then label.
-pub(crate) fn first_blocked(p: Instance) -> Blocked {
-    for i in 0..128u64 {
-        let k = i / 16;
-        let x = i % 16;
-        if k < p.count && is_label(p, k, x) {
-            if let Blocked::At(t, l, steps, zero) = growth(p, k, x) {
-                return Blocked::At(t, l, steps, zero);
-            }
-        }
-    }
-    Blocked::Nothing
-}
-
-// Whether a refusal 10 names the first cube that blocks; in any case a 1 of the transition, and a 0.
-pub(crate) fn names_blocked(p: Instance, r: Refusal) -> bool {
-    let k = r.transition as u64;
-    let x = r.point as u64;
-    let zero = r.lowest as u64;
-    if !one_of(p, k, x) {
-        return false;
-    }
-    if !has(p.zeros, zero) {
-        return false;
-    }
-    match first_blocked(p) {
-        Blocked::At(t, l, steps, low) => {
-            t == k && l == x && steps == r.steps as u64 && low == zero && r.product == 0
-        }
-        Blocked::Nothing => false,
-    }
+    nothing()
 }
 
 // Whether one product contains all points of the set.
@@ -128,16 +95,56 @@ fn is_covered(net: Network, set: u64) -> bool {
     false
 }
 
-// The first required cube that lies in no product: its transition and its label.
-pub(crate) fn first_uncovered(p: Instance, net: Network) -> Fault {
+// Whether x labels a required cube of transition k that blocks, or one that lies in no product.
+fn is_sought(p: Instance, net: Network, blocking: bool, k: u64, x: u64) -> bool {
+    if !is_label(p, k, x) {
+        return false;
+    }
+    if blocking {
+        return growth(p, k, x).number != 0;
+    }
+    !is_covered(net, points(required(p, k, x)))
+}
+
+// The first such cube, by transition and then label: 16 for each transition, and the label; 128 where there is none.
+fn first_sought(p: Instance, net: Network, blocking: bool) -> u64 {
     for i in 0..128u64 {
-        let k = i / 16;
-        let x = i % 16;
-        if k < p.count && is_label(p, k, x) {
-            if !is_covered(net, points(required(p, k, x))) {
-                return Fault::At(k, x);
-            }
+        if is_sought(p, net, blocking, i / 16, i % 16) {
+            return i;
         }
     }
-    Fault::Nothing
+    128
+}
+
+// Whether the first cube that blocks is that of transition k with label x, and its growth ends so.
+pub(crate) fn blocks_at(p: Instance, k: u64, x: u64, steps: u64, zero: u64) -> bool {
+    let i = first_sought(p, empty(), true);
+    if 128 <= i {
+        return false;
+    }
+    if i / 16 != k {
+        return false;
+    }
+    if i % 16 != x {
+        return false;
+    }
+    let end = Named {
+        number: 10,
+        first: steps,
+        second: zero,
+    };
+    same(growth(p, k, x), end)
+}
+
+// Verdict 4: the first required cube that lies in no product, its transition and its label.
+pub(crate) fn first_uncovered(p: Instance, net: Network) -> Named {
+    let i = first_sought(p, net, false);
+    if i < 128 {
+        return Named {
+            number: 4,
+            first: i / 16,
+            second: i % 16,
+        };
+    }
+    nothing()
 }

@@ -2,11 +2,10 @@
 use crate::counts::LEN;
 use crate::counts::SETS;
 use crate::counts::add;
+use crate::faults::holds_no_zero;
 use crate::instance::Instance;
 use crate::network::Network;
-use crate::network::Product;
 use crate::network::empty;
-use crate::network::points;
 use crate::network::product_of;
 use crate::network::products_of;
 use crate::network::push;
@@ -28,10 +27,6 @@ fn append(list: Codes, code: u64) -> Codes {
     next.codes[at] = code;
     next.count = at + 1;
     next
-}
-
-pub(crate) fn holds_no_zero(p: Instance, q: Product) -> bool {
-    points(q) & p.zeros == 0
 }
 
 // The products that contain no 0.
@@ -64,84 +59,34 @@ fn is_hazard_free(p: Instance, net: Network, counts: &mut [u64; LEN]) -> bool {
     }
 }
 
-// Whether the network is hazard-free with one product of the list more, from place `from` on.
-fn with_one(
+// Whether the network is hazard-free with 1 to `most` products of the list more, from place `from` on.
+fn with_more(
     p: Instance,
     net: Network,
     codes: &[u64; 81],
     from: usize,
     count: usize,
+    most: u64,
     counts: &mut [u64; LEN],
 ) -> bool {
+    if most == 0 {
+        return false;
+    }
     for i in from..count {
-        if is_hazard_free(p, with_product(p, net, codes, i), counts) {
+        let more = with_product(p, net, codes, i);
+        if is_hazard_free(p, more, counts) {
+            return true;
+        }
+        if with_more(p, more, codes, i + 1, count, most - 1, counts) {
             return true;
         }
     }
     false
 }
 
-// The same with one or two.
-fn with_two(
-    p: Instance,
-    net: Network,
-    codes: &[u64; 81],
-    from: usize,
-    count: usize,
-    counts: &mut [u64; LEN],
-) -> bool {
-    for i in from..count {
-        let more = with_product(p, net, codes, i);
-        if is_hazard_free(p, more, counts) {
-            return true;
-        }
-        if with_one(p, more, codes, i + 1, count, counts) {
-            return true;
-        }
-    }
-    false
-}
-
-// The same with up to three.
-fn with_three(
-    p: Instance,
-    net: Network,
-    codes: &[u64; 81],
-    from: usize,
-    count: usize,
-    counts: &mut [u64; LEN],
-) -> bool {
-    for i in from..count {
-        let more = with_product(p, net, codes, i);
-        if is_hazard_free(p, more, counts) {
-            return true;
-        }
-        if with_two(p, more, codes, i + 1, count, counts) {
-            return true;
-        }
-    }
-    false
-}
-
-// The same with up to four.
-fn with_four(
-    p: Instance,
-    net: Network,
-    codes: &[u64; 81],
-    from: usize,
-    count: usize,
-    counts: &mut [u64; LEN],
-) -> bool {
-    for i in from..count {
-        let more = with_product(p, net, codes, i);
-        if is_hazard_free(p, more, counts) {
-            return true;
-        }
-        if with_three(p, more, codes, i + 1, count, counts) {
-            return true;
-        }
-    }
-    false
+// As many products are tried together.
+fn most_of(n: u64) -> u64 {
+    if n == 3 { 4 } else { 3 }
 }
 
 // Whether some set of up to three products is hazard-free, and of up to four where there are three inputs.
@@ -151,9 +96,5 @@ pub(crate) fn some_hazard_free(p: Instance, counts: &mut [u64; LEN]) -> bool {
     }
     let list = implicants(p);
     let codes = list.codes;
-    let count = list.count;
-    if p.n == 3 {
-        return with_four(p, empty(), &codes, 0, count, counts);
-    }
-    with_three(p, empty(), &codes, 0, count, counts)
+    with_more(p, empty(), &codes, 0, list.count, most_of(p.n), counts)
 }

@@ -1,6 +1,6 @@
 // The verifier against the counterpart.
-use crate::bytes::length_of;
 use crate::bytes::network_of;
+use crate::calls::verdict_on;
 use crate::counts::ACCEPTANCE;
 use crate::counts::FIELDS_OF_FAULT;
 use crate::counts::HOLDS_ZERO;
@@ -13,126 +13,115 @@ use crate::counts::UNCOVERED;
 use crate::counts::VERDICT;
 use crate::counts::add;
 use crate::counts::expect;
-use crate::faults::Fault;
-use crate::faults::illegal_intersection;
-use crate::faults::one_of;
-use crate::faults::zero_held;
 use crate::instance::Instance;
-use crate::instance::Refused;
-use crate::instance::first_refused;
+use crate::instance::Named;
+use crate::instance::nothing;
+use crate::instance::same;
 use crate::network::Network;
-use crate::required::first_uncovered;
+use crate::verdict::first_fault;
 use crate::wires::Found;
 use crate::wires::hazard_free;
 use conditions::fault::Verdict;
 use refusal::refusal::Refusal;
-use verifier::verify::verify;
+use testing::products::bytes_of;
 
-fn is_nothing(f: Fault) -> bool {
-    if let Fault::Nothing = f { true } else { false }
-}
-
-fn is_at(f: Fault, first: u16, second: u16) -> bool {
-    match f {
-        Fault::At(j, x) => j == first as u64 && x == second as u64,
-        Fault::Nothing => false,
+fn named(number: u64, first: u16, second: u16) -> Named {
+    Named {
+        number,
+        first: first as u64,
+        second: second as u64,
     }
 }
 
-// Whether a fault's fields are those that its words give.
-fn names(p: Instance, net: Network, v: Verdict) -> bool {
+// A verdict's number and fields. Passed is nothing, and a refusal 1: no fault has that number.
+fn named_by(v: Verdict) -> Named {
     match v {
-        Verdict::HoldsZero(j, x) => is_at(zero_held(p, net), j, x),
-        Verdict::Intersects(j, k) => {
-            is_nothing(zero_held(p, net)) && is_at(illegal_intersection(p, net), j, k)
-        }
-        Verdict::Uncovered(k, x) => {
-            is_nothing(zero_held(p, net))
-                && is_nothing(illegal_intersection(p, net))
-                && one_of(p, k as u64, x as u64)
-                && is_at(first_uncovered(p, net), k, x)
-        }
-        Verdict::Passed => true,
-        Verdict::Refused(_) => false,
+        Verdict::Refused(_) => named(1, 0, 0),
+        Verdict::Passed => nothing(),
+        Verdict::HoldsZero(j, x) => named(2, j, x),
+        Verdict::Intersects(j, k) => named(3, j, k),
+        Verdict::Uncovered(k, x) => named(4, k, x),
     }
 }
 
 // The count of a verdict. A refusal has none: the network is one.
-fn count_of(v: Verdict) -> usize {
-    match v {
-        Verdict::Passed => PASSED,
-        Verdict::HoldsZero(_, _) => HOLDS_ZERO,
-        Verdict::Intersects(_, _) => INTERSECTS,
-        Verdict::Uncovered(_, _) => UNCOVERED,
-        Verdict::Refused(_) => LEN,
+fn count_of(number: u64) -> usize {
+    if number == 0 {
+        return PASSED;
     }
+    if number == 2 {
+        return HOLDS_ZERO;
+    }
+    if number == 3 {
+        return INTERSECTS;
+    }
+    if number == 4 {
+        return UNCOVERED;
+    }
+    LEN
 }
 
-fn is_passed(v: Verdict) -> bool {
-    if let Verdict::Passed = v { true } else { false }
-}
-
-fn compare(p: Instance, net: Network, v: Verdict, counts: &mut [u64; LEN]) {
-    add(counts, count_of(v));
-    expect(counts, FIELDS_OF_FAULT, names(p, net, v));
+// Whether it is hazard-free is as expected, unless it was too wide to be tried.
+pub(crate) fn expect_hazard_free(
+    p: Instance,
+    net: Network,
+    wanted: bool,
+    which: usize,
+    counts: &mut [u64; LEN],
+) {
     match hazard_free(p, net) {
-        Found::HazardFree => expect(counts, VERDICT, is_passed(v)),
-        Found::Hazard => expect(counts, VERDICT, !is_passed(v)),
+        Found::HazardFree => expect(counts, which, wanted),
+        Found::Hazard => expect(counts, which, !wanted),
         Found::TooWide => add(counts, TOO_WIDE),
     }
 }
 
-// A network through the verifier; the table and the transitions are the instance's bytes.
-pub(crate) fn verifies(
-    p: Instance,
-    table: &[u8],
-    transitions: &[u16],
-    net: Network,
-    counts: &mut [u64; LEN],
-) {
+fn compare(p: Instance, net: Network, v: Named, counts: &mut [u64; LEN]) {
+    add(counts, count_of(v.number));
+    expect(counts, FIELDS_OF_FAULT, same(first_fault(p, net), v));
+    expect_hazard_free(p, net, v.number == 0, VERDICT, counts);
+}
+
+// A network through the verifier.
+pub(crate) fn verifies(p: Instance, net: Network, counts: &mut [u64; LEN]) {
     let n = p.n as usize;
     let bytes = network_of(n, net);
-    let end = length_of(n, net.count as usize);
-    compare(
-        p,
-        net,
-        verify(n, table, transitions, &bytes[0..end]),
-        counts,
-    );
+    let end = bytes_of(n, net.count as usize, &bytes);
+    compare(p, net, named_by(verdict_on(p, &bytes[0..end])), counts);
 }
 
 // Whether the verifier passes a network that stands in bytes.
-pub(crate) fn passes(n: usize, table: &[u8], transitions: &[u16], bytes: &[u8]) -> bool {
-    is_passed(verify(n, table, transitions, bytes))
+pub(crate) fn passes(p: Instance, bytes: &[u8]) -> bool {
+    named_by(verdict_on(p, bytes)).number == 0
 }
 
 // Whether a call's refusal is the counterpart's, with no other field.
-pub(crate) fn same_refusal(own: Refused, r: Refusal) -> bool {
-    if own.number != r.number as u64 {
+pub(crate) fn same_refusal(own: Named, r: Refusal) -> bool {
+    if !same(own, named(r.number as u64, r.transition, r.point)) {
         return false;
     }
-    if own.transition != r.transition as u64 {
+    if r.steps != 0 {
         return false;
     }
-    if own.point != r.point as u64 {
+    if r.lowest != 0 {
         return false;
     }
-    r.steps == 0 && r.lowest == 0 && r.product == 0
+    r.product == 0
 }
 
-fn is_refusal(own: Refused, v: Verdict) -> bool {
-    match v {
-        Verdict::Refused(r) => same_refusal(own, r),
-        Verdict::Passed => false,
-        Verdict::HoldsZero(_, _) => false,
-        Verdict::Intersects(_, _) => false,
-        Verdict::Uncovered(_, _) => false,
-    }
+fn is_refusal(own: Named, v: Verdict) -> bool {
+    let Verdict::Refused(r) = v else {
+        return false;
+    };
+    same_refusal(own, r)
 }
 
 // The verifier refuses what the minimiser refuses by check 6 or 7.
-pub(crate) fn refuses(p: Instance, table: &[u8], transitions: &[u16], counts: &mut [u64; LEN]) {
+pub(crate) fn refuses(p: Instance, own: Named, counts: &mut [u64; LEN]) {
     add(counts, REFUSED);
-    let v = verify(p.n as usize, table, transitions, &[2u8; 0]);
-    expect(counts, ACCEPTANCE, is_refusal(first_refused(p), v));
+    expect(
+        counts,
+        ACCEPTANCE,
+        is_refusal(own, verdict_on(p, &[2u8; 0])),
+    );
 }

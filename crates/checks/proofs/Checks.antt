@@ -1,31 +1,46 @@
 -- What the checks say, one after another, and what they leave of a problem.
-use mathlib.Core.Path.{_≡_, sym, subst, _∙_}
-use mathlib.Core.List.{List, [], _∷_, _++_, List·Memᴰ}
+use mathlib.Core.Path.{_≡_, refl, sym, ap, subst, _∙_}
+use mathlib.Core.List.{List, [], _++_, map, List·Memᴰ, append-nil}
 use mathlib.Core.Option.{Option, none, some}
-use Prim.Native.Nat.{ℕ, _+_, _*_, _/_, _%_, _^_, _<_}
+use Prim.Native.Nat.{ℕ, zero, suc, _+_, _*_, _/_, _%_, _^_, _<_}
 use native.Mathlib.Omega.{arith}
 use native.Mathlib.Decide.{ℕ-discrete, decLt}
-use lib.ListN.{length, getD, List·getD-eq-default}
+use lib.Dec.{eqb}
+use lib.ListN.{length, getD, take, replicate, List·getD-eq-default}
 use lib.Pow.{pow-pos}
 use Rattle.hazard.specs.Search.{firstOf}
 use Rattle.hazard.specs.Refusal as spec
-use Rattle.hazard.specs.Sets.{required}
-use Rattle.hazard.proofs.Search.{firstOf-none, entries, firstOf-append}
-use Rattle.hazard.proofs.Rules.{inputs-few, length-whole, list-few, ends-within}
-use Rattle.points.specs.Plane.{Plane}
+use Rattle.hazard.specs.Sets.{Required, required, privileged}
+use Rattle.hazard.proofs.Search.{firstOf-none, entries}
+use Rattle.hazard.proofs.Rules.{inputs-few, length-whole, bytes-few, list-few, ends-within}
+use Rattle.cube.specs.PointSet.{inSet}
+use Rattle.cube.proofs.WordMask.{no-bit}
+use Rattle.points.proofs.Members.{those-none}
+use Rattle.context.specs.Places.{words, zerosIn, onesIn}
+use Rattle.context.specs.Planes.{Plane}
+use Rattle.context.specs.Context.{tableIn, Planes}
+use Rattle.context.proofs.Values.{table-is, planes-are, planes-same, table-same}
 use Rattle.kinds.specs.Ready.{Ready}
+use Rattle.rules.proofs.Ready.{defined-ready}
+use Rattle.sets.specs.declared.store.Corner.the-variants.{Label}
+use Rattle.sets.specs.Store.{requiredAt, singlePoints}
 use Rattle.refusal.specs.Answer.{refusalOf}
 use Rattle.refusal.specs.declared.refusal.Refusal.{Refusal}
+use Rattle.checks.specs.Problem.{Formed, Privileged, fewCubes, Problem}
 use Rattle.checks.specs.Answer.{formChecks, CountedBy, Answer}
 use Rattle.checks.specs.declared.many.Counted.{Counted}
 use Rattle.checks.specs.declared.many.Counted.the-variants as counted
 
 module _ (n : ℕ) (f ts : List ℕ) where
   -- What the checks of the form leave.
-  pub form-ready : firstOf (formChecks n f ts) ≡ none → Ready n f ts
-  form-ready e =
+  pub formed : firstOf (formChecks n f ts) ≡ none → Formed n f ts
+  formed e =
       let list = list-few ts (passes (search entries depth 20)) in
-      record { small = inputs-few n (passes (search entries depth 20)) .1; whole = length-whole n f (passes (search entries depth 20)); few = list .2; within = within (list .1) }
+      record {
+        whole = length-whole n f (passes (search entries depth 20));
+        bytes = λ x l. bytes-few f (passes (search entries depth 20)) x;
+        listed = record { small = inputs-few n (passes (search entries depth 20)) .1; few = list .2; within = within (list .1) };
+      }
     where
       passes : {o : Option spec.Refusal} → List·Memᴰ o (formChecks n f ts) → o ≡ none
       passes = firstOf-none (formChecks n f ts) e
@@ -39,19 +54,69 @@ module _ (n : ℕ) (f ts : List ℕ) where
         ]
       ]
 
-  pub accepted-ready : spec.Accepted n f ts → Ready n f ts
-  accepted-ready a = form-ready (firstOf-append (formChecks n f ts) (spec.pointsChecks n f ts ++ (spec.manyCheck n f ts ∷ [])) .0 a .0)
+-- The planes of such a problem.
+module _ {n : ℕ} {f ts : List ℕ} (w : List ℕ) (g : Formed n f ts) (long : length w ≡ words) (z : Plane f 0 (zerosIn w)) (o : Plane f 1 (onesIn w)) where
+  pub formed-planes : Planes n w
+  formed-planes = planes-are n w z o (g .whole) (g .listed .small) long
 
-module _ (n : ℕ) (f ts zeros ones : List ℕ) where
-  -- The planes are filled, and check 8 decides.
-  pub answer-filled : {o p : Option spec.Refusal} → o ≡ p → Plane f 0 zeros → Plane f 1 ones → (r : Counted) → CountedBy p n f ts r → Answer o n f ts zeros ones r
-  answer-filled e z w (counted.Accepted k) h = (e ∙ h .0, h .1, z, w)
-  answer-filled e z w (counted.Refused q) h = e ∙ h
+  pub formed-table : tableIn n w ≡ f
+  formed-table = table-is n w z o (g .whole) (g .bytes)
 
-  -- The answer, by its cases.
-  pub answer-accepted : {r : Counted} (o : Option spec.Refusal) → Answer o n f ts zeros ones r → {k : ℕ} → r ≡ counted.Accepted k
-      → (o ≡ none) × (k ≡ length (required n f ts)) × Plane f 0 zeros × Plane f 1 ones
-  answer-accepted o h e = subst (Answer o n f ts zeros ones) e h
+  -- Where check 6 finds nothing, kinds can be told.
+  pub formed-ready : firstOf (spec.pointsChecks n (tableIn n w) ts) ≡ none → Ready n w ts
+  formed-ready e = defined-ready formed-planes (g .listed) (firstOf-none (spec.pointsChecks n (tableIn n w) ts) e (search entries depth 20))
 
-  pub answer-refused : {r : Counted} (o : Option spec.Refusal) → Answer o n f ts zeros ones r → {q : Refusal} → r ≡ counted.Refused q → some (refusalOf q) ≡ o
-  answer-refused o h e = sym (subst (Answer o n f ts zeros ones) e h)
+  module _ {v : List ℕ} (h : Privileged n ts w v) where
+    pub stored-ready : firstOf (spec.pointsChecks n (tableIn n w) ts) ≡ none → Ready n v ts
+    stored-ready e =
+        let r = formed-ready e in
+        let t = table-same n w v (h .zeros·) (h .ones·) in
+        defined-ready (planes-same (h .zeros·) (h .ones·) (h .ready .long) formed-planes) (g .listed) (firstOf-none (spec.pointsChecks n (tableIn n v) ts) (ap (λ (l : List ℕ). firstOf (spec.pointsChecks n l ts)) t ∙ e) (search entries depth 20))
+
+    stored-table : tableIn n v ≡ f
+    stored-table = table-same n w v (h .zeros·) (h .ones·) ∙ formed-table
+
+    -- The problem, when check 8 has counted the required cubes.
+    pub problem-counted : {all : Option spec.Refusal} → firstOf (spec.pointsChecks n (tableIn n w) ts) ≡ none → all ≡ spec.manyCheck n f ts
+        → (before after : List ℕ) → length before ≡ fewCubes → (r : Counted) → CountedBy (spec.manyCheck n (tableIn n v) ts) n v ts before after r → Answer all n f ts v after r
+    problem-counted e q before after m (counted.Accepted k) c = (
+      q ∙ ap (λ (l : List ℕ). spec.manyCheck n l ts) (sym stored-table) ∙ c .0,
+      record {
+        ready = stored-ready e;
+        legal = h .ready;
+        table = stored-table;
+        privileged· = h .is ∙ ap (λ (l : List ℕ). privileged n l ts) formed-table;
+        room = c .1 .long ∙ m;
+        count· = c .1 .size ∙ ap (λ (l : List ℕ). length (required n l ts)) stored-table;
+        few· = c .1 .is ∙ ap (λ (l : List ℕ). take (length after) (required n l ts)) stored-table;
+        clean = c .1 .clean;
+      },
+    )
+    problem-counted e q before after m (counted.Refused x) c = q ∙ ap (λ (l : List ℕ). spec.manyCheck n l ts) (sym stored-table) ∙ c
+
+-- The answer, by its cases.
+module _ (n : ℕ) (f ts w few : List ℕ) where
+  pub answer-as : {o p : Option spec.Refusal} → o ≡ p → (r : Counted) → Answer p n f ts w few r → Answer o n f ts w few r
+  answer-as e (counted.Accepted k) h = (e ∙ h .0, h .1)
+  answer-as e (counted.Refused q) h = e ∙ h
+
+  pub answer-accepted : {r : Counted} (o : Option spec.Refusal) → Answer o n f ts w few r → {k : ℕ} → r ≡ counted.Accepted k → (o ≡ none) × Problem n f ts w few k
+  answer-accepted o h e = subst (Answer o n f ts w few) e h
+
+  pub answer-refused : {r : Counted} (o : Option spec.Refusal) → Answer o n f ts w few r → {q : Refusal} → r ≡ counted.Refused q → some (refusalOf q) ≡ o
+  answer-refused o h e = sym (subst (Answer o n f ts w few) e h)
+
+-- An accepted problem, said of the table that its context holds.
+pub accepted-in : {n : ℕ} {f ts w few : List ℕ} {k : ℕ} → spec.Accepted n f ts × Problem n f ts w few k → spec.Accepted n (tableIn n w) ts × Problem n (tableIn n w) ts w few k
+accepted-in {n} {f} {ts} {w} {few} {k} h = subst (λ (l : List ℕ). spec.Accepted n l ts × Problem n l ts w few k) (sym (h .1 .table)) h
+
+-- No single points: words that are 0 hold no point.
+zero-word : (k i : ℕ) → _≡_ {A = ℕ} (getD (replicate k 0) i 0) 0
+zero-word zero i = refl
+zero-word (suc k) zero = refl
+zero-word (suc k) (suc i) = zero-word k i
+
+pub no-singles : (n t k : ℕ) (l : List Required) → l ++ singlePoints n t (inSet (replicate k 0)) ≡ l
+no-singles n t k l =
+    ap (λ (ps : List ℕ). l ++ map (requiredAt n t Label) ps) (those-none (inSet (replicate k 0)) 0 (2 ^ n) (λ x a b. ap (λ (y : ℕ). eqb y 1) (no-bit (getD (replicate k 0) (x / 64) 0) (x % 64) (zero-word k (x / 64)))))
+    ∙ append-nil l

@@ -3,11 +3,13 @@ use mathlib.Core.Path.{_≡_}
 use mathlib.Core.List.{List, [], _∷_, _++_}
 use mathlib.Core.Option.{Option, none, some}
 use Prim.Native.Nat.{ℕ}
-use lib.ListN.{length}
 use Rattle.hazard.specs.Refusal as spec
 use Rattle.hazard.specs.Sets.{required}
-use Rattle.points.specs.Plane.{Plane}
+use Rattle.cube.specs.Entry.{requiredIn}
+use Rattle.context.specs.Context.{tableIn}
+use Rattle.sets.specs.Store.{Held}
 use Rattle.refusal.specs.Answer.{refusalOf}
+use Rattle.checks.specs.Problem.{Problem}
 use Rattle.checks.specs.declared.many.Counted.{Counted}
 use Rattle.checks.specs.declared.many.Counted.the-variants.{Accepted, Refused}
 
@@ -15,12 +17,12 @@ use Rattle.checks.specs.declared.many.Counted.the-variants.{Accepted, Re
 abbrev pub formChecks : ℕ → (f ts : List ℕ) → List (Option spec.Refusal)
 formChecks n f ts = (spec.inputsCheck n ∷ []) ++ (spec.tableChecks n f ++ spec.listChecks n ts)
 
--- What checks find, as an answer: nothing, and then the required cubes are counted; or the refusal.
-abbrev pub CountedBy : Option spec.Refusal → ℕ → (f ts : List ℕ) → Counted → Type 0
-CountedBy o n f ts (Accepted k) = (o ≡ none) × (k ≡ length (required n f ts))
-CountedBy o n f ts (Refused q) = o ≡ some (refusalOf q)
+-- What check 8 finds, as an answer: nothing, and then the required cubes are counted and stored; or the refusal.
+abbrev pub CountedBy : Option spec.Refusal → ℕ → (w ts before after : List ℕ) → Counted → Type 0
+CountedBy o n w ts before after (Accepted k) = (o ≡ none) × Held n (requiredIn n) before after k (required n (tableIn n w) ts)
+CountedBy o n w ts before after (Refused q) = o ≡ some (refusalOf q)
 
--- The same, where an accepted table's planes of 0 and of 1 are filled.
-abbrev pub Answer : Option spec.Refusal → ℕ → (f ts zeros ones : List ℕ) → Counted → Type 0
-Answer o n f ts zeros ones (Accepted k) = (o ≡ none) × (k ≡ length (required n f ts)) × Plane f 0 zeros × Plane f 1 ones
-Answer o n f ts zeros ones (Refused q) = o ≡ some (refusalOf q)
+-- What checks find, as an answer: nothing, and then the problem is ready; or the refusal.
+abbrev pub Answer : Option spec.Refusal → ℕ → (f ts w few : List ℕ) → Counted → Type 0
+Answer o n f ts w few (Accepted k) = (o ≡ none) × Problem n f ts w few k
+Answer o n f ts w few (Refused q) = o ≡ some (refusalOf q)

@@ -1,15 +1,22 @@
-// The input rules, one run after another.
+// The input rules, one run after another, and what they leave of a problem.
 ghost use mathlib.Core.Path.{_≡_};
+ghost use mathlib.Core.List.{[], _∷_, _++_};
+ghost use lib.ListN.{length};
 ghost use Rattle.hazard.specs.Search.{firstOf};
-ghost use Rattle.hazard.specs.Refusal.{inputChecks};
+ghost use Rattle.hazard.specs.Refusal.{inputChecks, pointsChecks, manyCheck};
+ghost use Rattle.context.specs.Places.{words};
 ghost use Rattle.refusal.specs.Answer.{checkedOf};
+ghost use Rattle.checks.specs.Problem.{Formed, fewCubes};
 ghost use Rattle.checks.specs.Answer.{formChecks, Answer};
 use crate::inputs::check_inputs;
 use crate::list::list_checks;
 use crate::many::Counted;
+use crate::many::FEW;
 use crate::many::check_many;
+use crate::stored::sets_into;
 use crate::table::table_checks;
-use points::plane::plane_into;
+use context::places::WORDS;
+use context::planes::planes_into;
 use refusal::checked::Checked;
 use rules::run::points_checks;
 
@@ -28,25 +35,38 @@ pub fn form_checks(n: usize, table: &[u8], transitions: &[u16]) -> Checked
     list_checks(n, transitions)
 }
 
-// The input rules. Nothing is asked of the problem that comes in; its planes are made in the lent words.
+// Checks 6 to 8. The table is read, into the planes of the context; from there on the context says all of it.
+fn problem_into(
+    n: usize,
+    table: &[u8],
+    transitions: &[u16],
+    context: &mut [u64],
+    required: &mut [u64],
+) -> Counted
+    requires { ⌜ Formed n (now table) (now transitions) × (length (now context) ≡ words) × (length (now required) ≡ fewCubes) ⌝ }
+    ensures { λ r. ⌜ Answer (firstOf (pointsChecks n (now (table .entry)) (now (transitions .entry)) ++ (manyCheck n (now (table .entry)) (now (transitions .entry)) ∷ []))) n (now (table .entry)) (now (transitions .entry)) (now (context .exit)) (now (required .exit)) r ⌝ }
+{
+    planes_into(table, context);
+    if let Checked::Refused(r) = points_checks(n, context, transitions) {
+        return Counted::Refused(r);
+    }
+    sets_into(n, transitions, context);
+    check_many(n, context, transitions, required)
+}
+
+// The input rules. Nothing is asked of the problem that comes in; its context is made, and its required cubes are counted, and stored where
+// they are few.
 pub fn check(
     n: usize,
     table: &[u8],
     transitions: &[u16],
-    zeros: &mut [u64; 16],
-    ones: &mut [u64; 16],
-    twos: &mut [u64; 16],
+    context: &mut [u64; WORDS],
+    required: &mut [u64; FEW],
 ) -> Counted
-    ensures { λ r. ⌜ Answer (firstOf (inputChecks n (now (table .entry)) (now (transitions .entry)))) n (now (table .entry)) (now (transitions .entry)) (now (zeros .exit)) (now (ones .exit)) r ⌝ }
+    ensures { λ r. ⌜ Answer (firstOf (inputChecks n (now (table .entry)) (now (transitions .entry)))) n (now (table .entry)) (now (transitions .entry)) (now (context .exit)) (now (required .exit)) r ⌝ }
 {
     if let Checked::Refused(r) = form_checks(n, table, transitions) {
         return Counted::Refused(r);
     }
-    plane_into(table, 0, zeros);
-    plane_into(table, 1, ones);
-    plane_into(table, 2, twos);
-    if let Checked::Refused(r) = points_checks(n, table, transitions, zeros, ones, twos) {
-        return Counted::Refused(r);
-    }
-    check_many(n, table, transitions, ones)
+    problem_into(n, table, transitions, context, required)
 }

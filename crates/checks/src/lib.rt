@@ -3,4 +3,5 @@ pub mod check;
 pub mod inputs;
 pub mod list;
 pub mod many;
+pub mod stored;
 pub mod table;

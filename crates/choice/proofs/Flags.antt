@@ -2,13 +2,12 @@
 use mathlib.Core.Path.{_≡_, refl, sym, ap, _∙_}
 use mathlib.Core.Bool.{Bool, true, false, not, cond, _&&_, _||_}
 use mathlib.Core.List.{List, []}
-use Prim.Native.Nat.{ℕ, _*_, _/_, _%_, _^_, _≤_, _<_}
-use native.Mathlib.Nat.{zero-div}
+use Prim.Native.Nat.{ℕ, _*_, _≤_, _<_}
 use native.Mathlib.Decide.{decLt}
 use native.Mathlib.Omega.{arith}
-use lib.Dec.{T, eqb, ltb, ltb→lt, lt→ltb}
+use lib.Dec.{T, ltb, ltb→lt, lt→ltb}
 use lib.ListN.{length, getD, replicate, List·getD-eq-default, length-replicate, getD-replicate}
-use Rattle.hazard.specs.Cube.{bit, inside}
+use Rattle.hazard.specs.Cube.{inside}
 use Rattle.hazard.proofs.Test.{T-and, is, isnt}
 use Rattle.cube.specs.Mask.{cubeOf}
 use Rattle.cube.specs.Entry.{cubeIn}
@@ -18,12 +17,7 @@ use Rattle.blocks.specs.Blocks.{allowedTo}
 use Rattle.rows.specs.Sets.{Split}
 use Rattle.choice.specs.Rows.{Inside}
 use Rattle.choice.specs.Flag.{Flagged, Unflagged, Flagging}
-
--- No row is past a set's words.
-past : (set : List ℕ) (i : ℕ) → 64 * length set ≤ i → inSet set i ≡ false
-past set i l =
-    let e : getD set (i / 64) 0 ≡ 0 = List·getD-eq-default set 0 (omega (arith, l)) in
-    ap (λ (y : ℕ). eqb (bit y (i % 64)) 1) e ∙ ap (λ (y : ℕ). eqb (y % 2) 1) (zero-div (2 ^ (i % 64)))
+use Rattle.choice.proofs.Placing.{past}
 
 -- At first no flag is set,
 no-flag : (size i : ℕ) → getD (replicate size false) i false ≡ false

@@ -1,6 +1,7 @@
 pub mod Firsts
 pub mod Placing
 pub mod Flags
+pub mod Lending
 pub mod Covering
 pub mod Choosing
 pub mod Keeping

@@ -4,7 +4,6 @@ use mathlib.Core.Logic.{_≢_}
 use mathlib.Core.Bool.{Bool, true, false, cond, _&&_}
 use mathlib.Core.List.{List}
 use Prim.Native.Nat.{ℕ, _+_, _*_, _/_, _%_, _^_, _≤_, _<_}
-use native.Mathlib.Nat.{zero-div}
 use native.Mathlib.Decide.{ℕ-discrete, decLt}
 use native.Mathlib.Omega.{arith}
 use lib.Count.{trailingZeros}
@@ -15,8 +14,13 @@ use Rattle.hazard.specs.Cube.{bit, flip}
 use Rattle.hazard.proofs.Point.{flip-same, flip-other}
 use Rattle.hazard.proofs.Test.{T-and, is, isnt, eqb-of, bool-ext}
 use Rattle.cube.specs.PointSet.{inSet}
+use Rattle.cube.proofs.WordMask.{no-bit}
 use Rattle.rows.proofs.Members.{lowest-few, lowest-set}
 use Rattle.choice.specs.Rows.{inWord}
+
+-- No row is past a set's words.
+pub past : (set : List ℕ) (i : ℕ) → 64 * length set ≤ i → inSet set i ≡ false
+past set i l = ap (λ (y : ℕ). eqb y 1) (no-bit (getD set (i / 64) 0) (i % 64) (List·getD-eq-default set 0 (omega (arith, l))))
 
 -- What stands there in the end is what stands there now, and v in the places of the rows that are left.
 pub record Placing {A : Type 0} (d : A) (b word : ℕ) (v : A) (old new : List A) (left : ℕ) : Type 0 where
@@ -72,10 +76,7 @@ pub placing-end : {A : Type 0} {d : A} {b word : ℕ} {v : A} {old new : List A}
 placing-end {A} {d} {b} {word} {v} {old} {new} {left} s e i = sym (s .is i ∙ ap (λ (t : Bool). cond t v (getD new i d)) none)
   where
     none : inWord b left i ≡ false
-    none = isnt (inWord b left i) (λ t. let q = eqb→eq (bit left (i % 64)) 1 (T-and (eqb (i / 64) b) (eqb (bit left (i % 64)) 1) .0 t .1) in omega (arith, q, ap (λ (y : ℕ). bit y (i % 64)) e, no-bit (i % 64)))
-      where
-        no-bit : (t : ℕ) → bit 0 t ≡ 0
-        no-bit t = ap (λ (y : ℕ). y % 2) (zero-div (2 ^ t))
+    none = isnt (inWord b left i) (λ t. let q = eqb→eq (bit left (i % 64)) 1 (T-and (eqb (i / 64) b) (eqb (bit left (i % 64)) 1) .0 t .1) in omega (arith, q, no-bit left (i % 64) e))
 
 -- Word after word: v stands in the places of the rows of the words below b.
 pub record Placed {A : Type 0} (d : A) (set : List ℕ) (v : A) (old new : List A) (b : ℕ) : Type 0 where
@@ -117,7 +118,4 @@ module _ {A : Type 0} {d : A} {set : List ℕ} {v : A} {old new : List A} {b : �
     where
       same : Dec (i < 64 * b) → (ltb i (64 * b) && inSet set i) ≡ inSet set i
       same (yes h) = rw (below i (64 * b) h)
-      same (no h) =
-          let e : getD set (i / 64) 0 ≡ 0 = List·getD-eq-default set 0 (omega (arith, h)) in
-          let z : inSet set i ≡ false = ap (λ (y : ℕ). eqb (bit y (i % 64)) 1) e ∙ ap (λ (y : ℕ). eqb (y % 2) 1) (zero-div (2 ^ (i % 64))) in
-          rw (not-below i (64 * b) (omega (arith, h)), z)
+      same (no h) = rw (not-below i (64 * b) (omega (arith, h)), past set i (omega (arith, h, l)))

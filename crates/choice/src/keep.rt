@@ -4,7 +4,7 @@ ghost use Prim.Native.Nat.{ℕ, _*_, _≤_, _<_};
 ghost use lib.ListN.{length, getD};
 ghost use Rattle.hazard.specs.Limits.{mostRequired};
 ghost use Rattle.hazard.specs.Search.{found, first};
-ghost use Rattle.rows.specs.Sets.{Fits};
+ghost use Rattle.blocks.specs.Blocks.{stride};
 ghost use Rattle.choice.specs.Keep.{neededIn, Lowest, Noted, Kept};
 ghost use Rattle.choice.specs.Rows.{Inside};
 use crate::flag::flag_product;
@@ -65,25 +65,25 @@ fn lowest_into(firsts: &[u16], lowest: &mut [u16])
 }
 
 // Going backwards, a product is kept where some required cube needs it. Those kept are moved to the end, in their order; the place of the
-// first of them. The flags tell which required cubes lie in a kept product; `uncovered` is the set of the others, and `taken` is room for
-// a set. `columns` has the required cubes for its rows.
+// first of them. The flags tell which required cubes lie in a kept product; the first b words of `uncovered` are the set of the others, and
+// `taken` is room for a set. `columns` has the required cubes for its rows.
 pub fn irredundant_from(
     n: usize,
     required: &[u64],
     columns: &[u64],
     firsts: &[u16],
     products: &mut [u64],
-    uncovered: &mut [u64],
-    taken: &mut [u64],
 ) -> usize
-    requires { ⌜ (n ≤ 10) × Noted n (now required) (now firsts) (now products) × Inside n (now required) (now columns) ⌝ }
-    requires { ⌜ Fits (now columns) (now uncovered) × (length (now required) ≤ 64 * length (now uncovered)) × (length (now taken) ≡ length (now uncovered)) ⌝ }
+    requires { ⌜ (n ≤ 10) × Noted n (now required) (now firsts) (now products) × Inside n (now required) (now columns) × (length (now required) ≤ 64 * stride (now columns)) ⌝ }
     ensures { λ r. ⌜ Kept n (now (required .entry)) (now (products .entry)) (now (products .exit)) r ⌝ }
 {
+    let b = (required.len() + 63) / 64;
     let mut flags = [false; MOST_REQUIRED];
     let mut lowest = [0u16; MOST_REQUIRED];
+    let mut uncovered = [0u64; (MOST_REQUIRED + 63) / 64];
+    let mut taken = [0u64; (MOST_REQUIRED + 63) / 64];
     lowest_into(firsts, &mut lowest);
-    whole_into(required.len(), uncovered);
+    whole_into(required.len(), &mut uncovered[0..b]);
     let mut kept = products.len();
     let mut j = products.len();
     while 0 < j {
@@ -92,7 +92,14 @@ pub fn irredundant_from(
         if needed(firsts, &flags, j as u16, lowest[j]) {
             kept -= 1;
             products[kept] = p;
-            flag_product(n, columns, cube_in(p), uncovered, taken, &mut flags);
+            flag_product(
+                n,
+                columns,
+                cube_in(p),
+                &mut uncovered[0..b],
+                &mut taken[0..b],
+                &mut flags,
+            );
         }
     }
     kept

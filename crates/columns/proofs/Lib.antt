@@ -1,5 +1,4 @@
 pub mod ColumnBits
+pub mod Ones
 pub mod Words
-pub mod Filling
-pub mod Narrowing
-pub mod Selecting
+pub mod Relating

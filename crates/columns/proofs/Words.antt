@@ -2,37 +2,24 @@
 use mathlib.Core.Path.{_≡_, refl, ap, ap₂, _∙_}
 use mathlib.Core.Bool.{Bool, _||_}
 use mathlib.Core.List.{List}
-use Prim.Native.Nat.{ℕ, zero, suc, _+_, _-_, _/_, _^_, _≤_, _<_}
-use native.Mathlib.Nat.{not-suc-le-zero, le-of-suc-le-suc, pow-suc}
+use Prim.Native.Nat.{ℕ, _+_, _/_, _^_, _≤_, _<_}
 use native.Mathlib.Omega.{arith}
 use lib.Dec.{eqb}
 use lib.Bits.{bitAnd, bitXor}
-use lib.Pow.{pow-pos}
 use lib.ListN.{length, getD}
 use Rattle.hazard.specs.Cube.{bit, fits}
-use Rattle.hazard.proofs.Point.{bit-zero, bit-suc}
 use Rattle.cube.specs.Mask.{digit}
 use Rattle.cube.specs.Entry.{pointIn, valueBit, careBit, pointBit}
 use Rattle.cube.proofs.Bits.{bit-case2}
-use Rattle.cube.proofs.WordMask.{and-bits, xor-bits}
+use Rattle.cube.proofs.WordMask.{and-bits, xor-bits, not-bit}
 use Rattle.cube.proofs.Fields.{value-bits, care-bits, point-bits}
 use Rattle.columns.specs.Column.{columnOf}
 use Rattle.columns.specs.Relation.{digitIn, allows}
-use Rattle.columns.specs.Table.{Allowing, AllowedAt}
+use Rattle.columns.specs.Allowing.{Allowing, AllowedAt}
 use Rattle.columns.specs.declared.relation.Relation.{Relation}
 use Rattle.columns.specs.declared.relation.Allowed.{Allowed}
 use Rattle.columns.proofs.ColumnBits.{column-bit}
-
--- Every bit of 2^n - 1 below n is 1.
-pub ones-bit : (n k : ℕ) → k < n → bit (2 ^ n - 1) k ≡ 1
-ones-bit zero k h = absurd (not-suc-le-zero h)
-ones-bit (suc n) zero h = bit-zero (2 ^ suc n - 1) ∙ omega (arith, pow-suc 2 n, pow-pos n)
-ones-bit (suc n) (suc k) h =
-    let e : (2 ^ suc n - 1) / 2 ≡ 2 ^ n - 1 = omega (arith, pow-suc 2 n, pow-pos n) in
-    bit-suc (2 ^ suc n - 1) k ∙ ap (λ (y : ℕ). bit y k) e ∙ ones-bit n k (le-of-suc-le-suc h)
-
-not-bit : (x k : ℕ) → k < 64 → bit (bitXor 18446744073709551615 x) k ≡ bitXor 1 (bit x k)
-not-bit x k h = xor-bits 18446744073709551615 x k ∙ ap (λ (y : ℕ). bitXor y (bit x k)) (ones-bit 64 k h)
+use Rattle.columns.proofs.Ones.{ones-bit}
 
 -- The literals 0, from the columns' bits.
 abbrev zeros : ℕ → ℕ → ℕ

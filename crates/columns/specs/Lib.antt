@@ -1,3 +1,3 @@
 pub mod Column
 pub mod Relation
-pub mod Table
+pub mod Allowing

@@ -4,7 +4,7 @@ ghost use Prim.Native.Nat.{_≤_, _<_};
 ghost use lib.Dec.{eqb};
 ghost use lib.ListN.{length};
 ghost use Rattle.hazard.specs.Cube.{fits};
-ghost use Rattle.columns.specs.Table.{Allowing, AllowedAt};
+ghost use Rattle.columns.specs.Allowing.{Allowing, AllowedAt};
 use crate::column::column;
 use cube::entry::CARE_BIT;
 use cube::entry::POINT_BIT;

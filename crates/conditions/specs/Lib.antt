@@ -1,2 +1,3 @@
 pub mod Network
+pub mod Look
 pub mod Answer

@@ -1,28 +1,37 @@
 // The three conditions, each with its first failure.
 ghost use mathlib.Core.Path.{_≡_};
-ghost use mathlib.Core.List.{map};
+ghost use mathlib.Core.List.{map, [], _∷_};
+ghost use mathlib.Core.Option.{none};
 ghost use Prim.Native.Nat.{ℕ, _*_, _≤_};
 ghost use lib.ListN.{length, getD};
 ghost use Rattle.hazard.specs.Limits.{mostProducts};
+ghost use Rattle.hazard.specs.Search.{firstOf, firstPlace};
 ghost use Rattle.hazard.specs.Verdict as spec;
-ghost use Rattle.cube.specs.Entry.{requiredIn, privilegedIn, CleanWord, networkIn};
-ghost use Rattle.cube.specs.PointSet.{inSet};
-ghost use Rattle.legality.specs.Columns.{Columns};
-ghost use Rattle.points.specs.Ready.{Ready};
+ghost use Rattle.cube.specs.Mask.{cubeOf};
+ghost use Rattle.cube.specs.Entry.{requiredIn, CleanWord, networkIn};
+ghost use Rattle.blocks.specs.Blocks.{stride};
+ghost use Rattle.context.specs.Context.{offIn, privilegedOf};
+ghost use Rattle.legality.specs.Ready.{Ready};
 ghost use Rattle.rows.specs.Sets.{Fits};
 ghost use Rattle.choice.specs.Rows.{Containing};
+ghost use Rattle.conditions.specs.Look.{metIn};
 ghost use Rattle.conditions.specs.Answer.{placeOf, unmetOf, verdictOf};
+use blocks::fill::blocks_into;
 use choice::cover::covers;
+use columns::relation::Relation;
+use context::value::lowest_zero;
 use cube::entry::cube_in;
 use cube::entry::point_in;
 use cube::entry::transition_in;
+use cube::mask::Cube;
+use hazard::limits::MOST_PRODUCTS;
 use legality::meeting::Met;
 use legality::meeting::first_illegal;
 use points::lowest::Found;
-use points::lowest::lowest_in;
+use points::walk::walk_over;
 use refusal::refusal::Refusal;
 
-// A product with a point or a transition, or none.
+// A product with a transition, or none.
 pub enum Place {
     At(u16, u16),
     Nothing,
@@ -34,36 +43,55 @@ pub enum Unmet {
     Nothing,
 }
 
-// (a) by product and then point.
-fn fault_a(n: usize, off: &[u64], products: &[u64]) -> Place
-    requires { ⌜ Ready n (now off) × (length (now products) ≤ mostProducts) ⌝ }
-    requires { ⌜ ((i : ℕ) → CleanWord n (getD (now products) i 0)) ⌝ }
-    ensures { λ r. ⌜ placeOf r ≡ spec.faultA n (inSet (now (off .entry))) (networkIn n (now (products .entry))) ⌝ }
-{
-    let mut j = 0;
-    while j < products.len() {
-        if let Found::At(z) = lowest_in(n, off, cube_in(products[j])) {
-            return Place::At(j as u16, z);
-        }
-        j += 1;
-    }
-    Place::Nothing
+// How a network is judged: refused, passed, or its first fault.
+pub enum Verdict {
+    Refused(Refusal),
+    Passed,
+    // (a): the product, and the point
+    HoldsZero(u16, u16),
+    // (c): the product, and the transition
+    Intersects(u16, u16),
+    // (b): the transition, and the label
+    Uncovered(u16, u16),
 }
 
-// (c) by product and then transition. `legal` are the columns of the privileged cubes.
-fn fault_c(n: usize, privileged: &[u64], legal: &[u64], products: &[u64]) -> Place
-    requires { ⌜ Columns n (now privileged) (now legal) × (length (now products) ≤ mostProducts) ⌝ }
-    requires { ⌜ ((i : ℕ) → CleanWord n (getD (now products) i 0)) ⌝ }
-    ensures { λ r. ⌜ placeOf r ≡ spec.faultC (map (privilegedIn n) (now (privileged .entry))) (networkIn n (now (products .entry))) ⌝ }
+// (c) up to product j, whose cube is c: the first failure before it stays, and else it has the first transition.
+fn met_by(n: usize, context: &[u64], met: Place, j: u16, c: Cube) -> Place
+    requires { ⌜ Ready n (now context) ⌝ }
+    ensures { λ r. ⌜ placeOf r ≡ firstOf (placeOf met ∷ firstPlace (λ k. metIn n (now (context .entry)) (cubeOf n c)) j 1 ∷ []) ⌝ }
 {
+    let Place::Nothing = met else {
+        return met;
+    };
+    match first_illegal(n, context, c) {
+        Met::At(w) => Place::At(j, transition_in(w)),
+        Met::Nothing => Place::Nothing,
+    }
+}
+
+// (a) by product and then point, else (c) by product and then transition. Each product is looked at once: a zero ends the search, and the
+// first illegal intersection waits for its end.
+fn product_fault(n: usize, context: &[u64], products: &[u64]) -> Verdict
+    requires { ⌜ Ready n (now context) × (length (now products) ≤ mostProducts) ⌝ }
+    requires { ⌜ ((i : ℕ) → CleanWord n (getD (now products) i 0)) ⌝ }
+    ensures { λ r. ⌜ verdictOf r
+        ≡ spec.firstFault (spec.faultA n (offIn (now (context .entry))) (networkIn n (now (products .entry))))
+        (spec.faultC (privilegedOf n (now (context .entry))) (networkIn n (now (products .entry)))) none ⌝ }
+{
+    let mut met = Place::Nothing;
     let mut j = 0;
     while j < products.len() {
-        if let Met::At(w) = first_illegal(n, privileged, legal, cube_in(products[j])) {
-            return Place::At(j as u16, transition_in(w));
+        let c = cube_in(products[j]);
+        if let Found::At(z) = lowest_zero(context, walk_over(n, c)) {
+            return Verdict::HoldsZero(j as u16, z);
         }
+        met = met_by(n, context, met, j as u16, c);
         j += 1;
     }
-    Place::Nothing
+    match met {
+        Place::At(j, k) => Verdict::Intersects(j, k),
+        Place::Nothing => Verdict::Passed,
+    }
 }
 
 // (b) in the order of required cubes. The products are the rows of the columns; `rows` is room for a set of them.
@@ -83,45 +111,29 @@ fn fault_b(n: usize, required: &[u64], products: &[u64], columns: &[u64], rows: 
     Unmet::Nothing
 }
 
-// How a network is judged: refused, passed, or its first fault.
-pub enum Verdict {
-    Refused(Refusal),
-    Passed,
-    // (a): the product, and the point
-    HoldsZero(u16, u16),
-    // (c): the product, and the transition
-    Intersects(u16, u16),
-    // (b): the transition, and the label
-    Uncovered(u16, u16),
-}
-
-// The first fault: (a), then (c), then (b). `legal` has the columns of the privileged cubes, `columns` those of the products; `rows` is room
-// for a set of products.
+// The first fault: (a), then (c), then (b). `columns` is room for those of the products.
 pub fn first_fault(
     n: usize,
-    off: &[u64],
-    privileged: &[u64],
-    legal: &[u64],
+    context: &[u64],
     required: &[u64],
     products: &[u64],
-    columns: &[u64],
-    rows: &mut [u64],
+    columns: &mut [u64],
 ) -> Verdict
-    requires { ⌜ Ready n (now off) × Columns n (now privileged) (now legal) × (length (now products) ≤ mostProducts) ⌝ }
+    requires { ⌜ Ready n (now context) × (length (now products) ≤ mostProducts) × (length (now products) ≤ 64 * stride (now columns)) ⌝ }
     requires { ⌜ ((i : ℕ) → CleanWord n (getD (now products) i 0)) ⌝ }
-    requires { ⌜ Fits (now columns) (now rows) × (length (now products) ≤ 64 * length (now rows)) × Containing n (now products) (now columns) ⌝ }
     ensures { λ r. ⌜ verdictOf r
-        ≡ spec.firstFault (spec.faultA n (inSet (now (off .entry))) (networkIn n (now (products .entry))))
-        (spec.faultC (map (privilegedIn n) (now (privileged .entry))) (networkIn n (now (products .entry))))
+        ≡ spec.firstFault (spec.faultA n (offIn (now (context .entry))) (networkIn n (now (products .entry))))
+        (spec.faultC (privilegedOf n (now (context .entry))) (networkIn n (now (products .entry))))
         (spec.faultB (map (requiredIn n) (now (required .entry))) (networkIn n (now (products .entry)))) ⌝ }
 {
-    if let Place::At(j, x) = fault_a(n, off, products) {
-        return Verdict::HoldsZero(j, x);
-    }
-    if let Place::At(j, k) = fault_c(n, privileged, legal, products) {
-        return Verdict::Intersects(j, k);
-    }
-    match fault_b(n, required, products, columns, rows) {
+    let fault = product_fault(n, context, products);
+    let Verdict::Passed = fault else {
+        return fault;
+    };
+    blocks_into(Relation::Contains, n, products, columns);
+    let mut rows = [0u64; (MOST_PRODUCTS + 63) / 64];
+    let b = (products.len() + 63) / 64;
+    match fault_b(n, required, products, columns, &mut rows[0..b]) {
         Unmet::At(w) => Verdict::Uncovered(transition_in(w), point_in(w)),
         Unmet::Nothing => Verdict::Passed,
     }

@@ -2,7 +2,7 @@
 use mathlib.Core.Path.{_≡_, refl, sym, ap, _∙_}
 use mathlib.Core.Logic.{_≢_}
 use mathlib.Core.Bool.{Bool, false, _&&_}
-use Prim.Native.Nat.{ℕ, zero, suc, _+_, _-_, _*_, _/_, _%_, _^_, _<_}
+use Prim.Native.Nat.{ℕ, zero, suc, _+_, _*_, _/_, _%_, _^_, _<_}
 use native.Mathlib.Nat.{mod-lt, mod-eq-of-lt, one-mul, pow-suc}
 use native.Mathlib.Decide.{ℕ-discrete}
 use native.Mathlib.Omega.{arith}
@@ -82,9 +82,12 @@ zero-both d a b f g =
 pub zero-split : (n : ℕ) → eqb n 0 ≡ (eqb (n % 2) 0 && eqb (n / 2) 0)
 zero-split n = zero-both n (n % 2) (n / 2) (λ e. omega arith) (λ e. omega arith)
 
--- The code's 1 << i.
+-- The code's 1 << i, in words of w bits, and of 16.
+pub one-shifted : (w i : ℕ) → i < w → (1 * 2 ^ i) % 2 ^ w ≡ 2 ^ i
+one-shifted w i h = ap (λ (x : ℕ). x % 2 ^ w) (one-mul (2 ^ i)) ∙ mod-eq-of-lt (pow-lt {j = w} h)
+
 pub one-shl : (i : ℕ) → i < 16 → (1 * 2 ^ i) % 2 ^ 16 ≡ 2 ^ i
-one-shl i h = ap (λ (x : ℕ). x % 2 ^ 16) (one-mul (2 ^ i)) ∙ mod-eq-of-lt (pow-lt {j = 16} h)
+one-shl = one-shifted 16
 
 -- A mask applied twice.
 pub and-again : (a b : ℕ) → bitAnd (bitAnd a b) b ≡ bitAnd a b

@@ -4,15 +4,14 @@ use mathlib.Core.Logic.{_≢_}
 use mathlib.Core.Bool.{Bool, true, false, _&&_}
 use mathlib.Core.Option.{Option, none, some}
 use Prim.Native.Nat.{ℕ, zero, suc, _/_, _%_, _^_, _<_}
-use native.Mathlib.Nat.{mod-lt, div-one, add-comm}
+use native.Mathlib.Nat.{mod-lt, div-one}
 use native.Mathlib.Decide.{decLt}
-use native.Mathlib.Numerals.{add-one}
 use native.Mathlib.Omega.{arith}
 use lib.Dec.{T, eqb}
 use lib.Arith.{lt-one}
 use lib.Count.{under, trailingZeros}
-use lib.Pow.{shr-shr}
 use Rattle.hazard.specs.Cube.{bit, has}
+use Rattle.hazard.proofs.Point.{bit-suc}
 use Rattle.hazard.proofs.Test.{so, so-not}
 use Rattle.hazard.proofs.Search.{First, nowhere, lowest, first-is, none-first}
 use Rattle.hazard.specs.Search.{first}
@@ -25,9 +24,6 @@ use Rattle.cube.proofs.Following.{value-least}
 use Rattle.cube.proofs.Scan.{value-in}
 
 -- The lowest bit of a number.
-bit-suc : (r t : ℕ) → bit r (suc t) ≡ bit (r / 2) t
-bit-suc r t = ap (λ (y : ℕ). y % 2) (ap (λ (j : ℕ). r / 2 ^ j) (sym (add-one t) ∙ add-comm t 1) ∙ sym (shr-shr r 1 t))
-
 pub record Lowest (k r t : ℕ) : Type 0 where
   pub inside : t < k
   pub set : bit r t ≡ 1

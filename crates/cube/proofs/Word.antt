@@ -23,7 +23,7 @@ pub packed-clean : {n w t x : ℕ} {c : Cube} {ds : digits.Cube} → Packed w t 
 packed-clean p s h = record { small = rw (p .care·) (s .fits .small); clean = rw (p .value·, p .care·) (s .fits .clean); point = rw (p .point·) h }
 
 -- The word 0 has the cube without literals, and so has what is read past an array's end.
-zero-clean : (n : ℕ) → CleanWord n 0
+pub zero-clean : (n : ℕ) → CleanWord n 0
 zero-clean n = record { small = pow-pos n; clean = refl; point = pow-pos n }
 
 pub taken-clean : (n m : ℕ) (ws : List ℕ) → ((k : ℕ) → k < m → CleanWord n (getD ws k 0)) → (k : ℕ) → CleanWord n (getD (take m ws) k 0)

@@ -1,21 +1,22 @@
 -- The bits of a cube's mask, and the words that the cube has points in.
 use mathlib.Core.Path.{_≡_, refl, sym, ap, _∙_, subst}
-use mathlib.Core.Bool.{_&&_}
-use Prim.Native.Nat.{ℕ, suc, _+_, _-_, _*_, _/_, _%_, _^_, _≤_, _<_}
-use native.Mathlib.Nat.{mod-lt, mod-eq-of-lt, zero-div, zero-add, add-zero, mod-one, one-mul, mul-one, zero-mul, add-comm, add-mul, mul-assoc, mul-comm, mul-le-mul-left, pow-suc, lt-of-lt-of-le, lt-of-le-of-lt}
+use mathlib.Core.Bool.{not, _&&_}
+use Prim.Native.Nat.{ℕ, zero, suc, _+_, _-_, _*_, _/_, _%_, _^_, _≤_, _<_}
+use native.Mathlib.Nat.{not-suc-le-zero, le-of-suc-le-suc, mod-lt, mod-eq-of-lt, zero-div, zero-add, add-zero, mod-one, one-mul, mul-one, zero-mul, add-comm, add-mul, mul-assoc, mul-comm, mul-le-mul-left, pow-suc, lt-of-lt-of-le, lt-of-le-of-lt}
 use native.Mathlib.Decide.{ℕ-discrete}
 use native.Mathlib.Numerals.{add-one}
 use native.Mathlib.Omega.{arith}
 use lib.Dec.{eqb}
 use lib.Arith.{digits-lt}
-use lib.Bits.{bitAnd, bitOr, bitXor, and-shr, xor-shr, or-shifted-r, and-zero-r, and-le-r, or-self, xor-self, xor-zero-r, xor-lt}
+use lib.Bits.{bitAnd, bitOr, bitXor, and-comm, and-shr, or-shr, xor-shr, or-shifted-r, and-zero-r, and-le-r, or-self, xor-self, xor-zero-r, xor-lt}
 use lib.Pow.{pow-pos, pow-add, pow-mono, shl-exact, shr-shr, high, low, field, mod-mod-pow, mod-pow-add}
 use borrow.Author.Tests.{ne-eqb}
 use Rattle.hazard.specs.Cube.{bit}
+use Rattle.hazard.proofs.Point.{bit-zero, bit-suc}
 use Rattle.cube.specs.Mask.{Clean}
 use Rattle.cube.specs.WordMask.{differs, Marks, Words}
 use Rattle.cube.specs.declared.mask.Cube.{Cube}
-use Rattle.cube.proofs.Bits.{bit-case2, and-last, xor-last}
+use Rattle.cube.proofs.Bits.{bit-case2, and-last, or-last, xor-last}
 use Rattle.cube.proofs.Points.{and-bit}
 
 -- Bits of a number of two parts.
@@ -38,8 +39,22 @@ no-bit a i e = ap (λ (y : ℕ). bit y i) e ∙ ap (λ (y : ℕ). y % 2) (zero-d
 pub and-bits : (a b i : ℕ) → bit (bitAnd a b) i ≡ bitAnd (bit a i) (bit b i)
 and-bits a b i = ap (λ (y : ℕ). y % 2) (and-shr a b i) ∙ and-last (a / 2 ^ i) (b / 2 ^ i)
 
+pub or-bits : (a b i : ℕ) → bit (bitOr a b) i ≡ bitOr (bit a i) (bit b i)
+or-bits a b i = ap (λ (y : ℕ). y % 2) (or-shr a b i) ∙ or-last (a / 2 ^ i) (b / 2 ^ i)
+
 pub xor-bits : (a b i : ℕ) → bit (bitXor a b) i ≡ bitXor (bit a i) (bit b i)
 xor-bits a b i = ap (λ (y : ℕ). y % 2) (xor-shr a b i) ∙ xor-last (a / 2 ^ i) (b / 2 ^ i)
+
+-- Every bit of 2^n - 1 below n is 1.
+pub all-ones : (n k : ℕ) → k < n → bit (2 ^ n - 1) k ≡ 1
+all-ones zero k h = absurd (not-suc-le-zero h)
+all-ones (suc n) zero h = bit-zero (2 ^ suc n - 1) ∙ omega (arith, pow-suc 2 n, pow-pos n)
+all-ones (suc n) (suc k) h =
+    let e : (2 ^ suc n - 1) / 2 ≡ 2 ^ n - 1 = omega (arith, pow-suc 2 n, pow-pos n) in
+    bit-suc (2 ^ suc n - 1) k ∙ ap (λ (y : ℕ). bit y k) e ∙ all-ones n k (le-of-suc-le-suc h)
+
+pub not-bit : (x k : ℕ) → k < 64 → bit (bitXor 18446744073709551615 x) k ≡ bitXor 1 (bit x k)
+not-bit x k h = xor-bits 18446744073709551615 x k ∙ ap (λ (y : ℕ). bitXor y (bit x k)) (all-ones 64 k h)
 
 -- The bit of a point, with one input more.
 next-index : (x i : ℕ) → x % 2 ^ (i + 1) ≡ bit x i * 2 ^ i + x % 2 ^ i
@@ -210,3 +225,13 @@ both-bits = bit-case2 (λ a b. eqb (bitAnd a b) 1 ≡ (eqb b 1 && eqb a 1)) refl
 
 pub and-test : (a b i : ℕ) → eqb (bit (bitAnd a b) i) 1 ≡ (eqb (bit b i) 1 && eqb (bit a i) 1)
 and-test a b i = ap (λ (y : ℕ). eqb y 1) (and-bits a b i) ∙ both-bits (a / 2 ^ i) (b / 2 ^ i)
+
+-- The same, in the order of the words.
+pub both-test : (a b i : ℕ) → eqb (bit (bitAnd a b) i) 1 ≡ (eqb (bit a i) 1 && eqb (bit b i) 1)
+both-test a b i = ap (λ (y : ℕ). eqb (bit y i) 1) (and-comm a b) ∙ and-test b a i
+
+-- A bit of a word without another word's bits, as a test.
+pub less-test : (a b i : ℕ) → eqb (bit (bitXor a (bitAnd a b)) i) 1 ≡ (eqb (bit a i) 1 && not (eqb (bit b i) 1))
+less-test a b i =
+    ap (λ (y : ℕ). eqb y 1) (xor-bits a (bitAnd a b) i ∙ ap (bitXor (bit a i)) (and-bits a b i))
+    ∙ bit-case2 (λ x y. eqb (bitXor x (bitAnd x y)) 1 ≡ (eqb x 1 && not (eqb y 1))) refl refl refl refl (a / 2 ^ i) (b / 2 ^ i)

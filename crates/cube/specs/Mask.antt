@@ -12,6 +12,10 @@ use Rattle.cube.specs.declared.mask.Cube.{Cube}
 abbrev pub digit : ℕ → ℕ → ℕ
 digit care value = cond (eqb care 0) 2 value
 
+-- The digit of the cube at input i.
+abbrev pub digitAt : Cube → ℕ → ℕ
+digitAt c i = digit (digits.bit (c .care) i) (digits.bit (c .value) i)
+
 -- Input i has bit i of the masks.
 abbrev pub digitsOf : ℕ → ℕ → ℕ → digits.Cube
 digitsOf zero care value = []

@@ -4,10 +4,9 @@ ghost use mathlib.Core.List.{List, _∷_};
 ghost use Prim.Native.Nat.{ℕ, _+_, _^_, _≤_, _<_};
 ghost use lib.ListN.{length, getD, take, drop};
 ghost use lib.Seq.{paste};
-ghost use Rattle.hazard.specs.Cube.{bit};
-ghost use Rattle.cube.specs.Mask.{digit, cubeOf, Stands};
+ghost use Rattle.cube.specs.Mask.{cubeOf, Stands};
 use crate::mask::Cube;
-use crate::point::bit_of;
+use crate::mask::digit_at;
 
 // The cube with one input more, before the others.
 fn prepended(c: Cube, d: u8) -> Cube
@@ -40,17 +39,6 @@ pub fn product_at(n: usize, bytes: &[u8], at: usize) -> Cube
     c
 }
 
-// The digit of input i.
-fn digit_of(c: Cube, i: usize) -> u8
-    requires { ⌜ i < 16 ⌝ }
-    ensures { λ r. ⌜ r ≡ digit (bit (c .care) i) (bit (c .value) i) ⌝ }
-{
-    if bit_of(c.care, i) == 0 {
-        return 2;
-    }
-    bit_of(c.value, i) as u8
-}
-
 // The cube's digits, stored from a place on.
 pub fn write_product(n: usize, c: Cube, out: &mut [u8], at: usize)
     requires { ⌜ (n ≤ 10) × (at + n ≤ length (now out)) ⌝ }
@@ -58,7 +46,7 @@ pub fn write_product(n: usize, c: Cube, out: &mut [u8], at: usize)
 {
     let mut i = 0;
     while i < n {
-        out[at + i] = digit_of(c, i);
+        out[at + i] = digit_at(c, i) as u8;
         i += 1;
     }
 }

@@ -3,12 +3,23 @@ ghost use mathlib.Core.Path.{_≡_};
 ghost use Prim.Native.Nat.{ℕ, _≤_, _<_, _^_};
 ghost use lib.ListN.{set};
 ghost use Rattle.hazard.specs.Cube.{span, join, supercube, inside};
-ghost use Rattle.cube.specs.Mask.{cubeOf, Stands};
+ghost use Rattle.cube.specs.Mask.{digitAt, cubeOf, Stands};
 
 // Bit i of care: input i has a literal. Bit i of value: that literal, 0 where there is none.
 pub struct Cube {
     pub care: u16,
     pub value: u16,
+}
+
+// The digit of the cube at input i.
+pub fn digit_at(c: Cube, i: usize) -> usize
+    requires { ⌜ i < 16 ⌝ }
+    ensures { λ r. ⌜ (r ≡ digitAt c i) × (r < 3) ⌝ }
+{
+    if (c.care >> i) % 2 == 0 {
+        return 2;
+    }
+    ((c.value >> i) % 2) as usize
 }
 
 // The cube c lies inside d.

@@ -1,36 +1,20 @@
-// A case: its calls, and its line.
+// Both calls on a problem, and what is printed of their answers.
 ghost use Prim.Native.Nat.{_≤_};
 ghost use lib.ListN.{length};
-use crate::fill::fill;
-use crate::print::end_with;
-use crate::print::print_products;
-use crate::print::print_refusal;
-use crate::print::start_with;
 use hazard::limits::MOST_COVER;
-use hazard::limits::MOST_REQUIRED;
-use minimiser::minimise::minimise;
-use refusal::refusal::Refusal;
 use selection::minimised::Minimised;
-use verifier::verify::verify;
+use testing::calls::answer;
+use testing::calls::verifies;
+use testing::count::print_count;
+use testing::marks::MARK;
+use testing::marks::is_marked;
+use testing::products::bytes_of;
+use testing::products::print_products;
+use testing::report::print_refusal;
 
-// No product has such a byte.
-const MARK: u8 = 9;
-
-// Every byte is the mark.
-fn is_marked(bytes: &[u8]) -> bool {
-    let mut i = 0;
-    while i < bytes.len() {
-        if bytes[i] != MARK {
-            return false;
-        }
-        i += 1;
-    }
-    true
-}
-
-// Whether this part of the buffer still has what was in it before the call.
-fn print_kept(part: &[u8], name: &[u8]) {
-    if part.len() == 0 {
+// Whether the buffer from this place on still has what was in it before the call.
+fn print_kept(name: &[u8], cover: &[u8], from: usize) {
+    if cover.len() <= from {
         io::write_all(1, b", no ");
         io::write_all(1, name);
         io::write_all(1, b"; ");
@@ -38,81 +22,55 @@ fn print_kept(part: &[u8], name: &[u8]) {
     }
     io::write_all(1, b", ");
     io::write_all(1, name);
-    if is_marked(part) {
+    if is_marked(cover, from) {
         io::write_all(1, b" unchanged; ");
     } else {
         io::write_all(1, b" CHANGED; ");
     }
 }
 
-// How many of the buffer's bytes the products take.
-fn bytes_of(n: usize, count: usize, cover: &[u8]) -> usize
+// How many products, a single one's bytes, and the buffer's rest: the order of several products is free. Returns how many bytes they take.
+fn print_network(n: usize, count: usize, cover: &[u8]) -> usize
     ensures { λ r. ⌜ r ≤ length (now (cover .entry)) ⌝ }
 {
-    if 10 < n {
-        return 0;
+    let end = bytes_of(n, count, cover);
+    print_count(b"products ", count as u64);
+    if count == 1 {
+        print_products(n, &cover[0..end]);
     }
-    if MOST_REQUIRED < count {
-        return 0;
-    }
-    let end = n * count;
-    if cover.len() < end {
-        return 0;
-    }
+    print_kept(b"rest", cover, end);
     end
 }
 
-// The network in the buffer, the buffer's rest, and the verifier's verdict on the network.
-fn show(n: usize, table: &[u8], transitions: &[u16], count: usize, cover: &[u8]) {
-    let end = bytes_of(n, count, cover);
-    print_products(n, count, &cover[0..end]);
-    print_kept(&cover[end..], b"rest");
-    end_with(verify(n, table, transitions, &cover[0..end]));
-}
-
-// The minimiser's refusal, the buffer, and the verifier's answer to the same problem with no products.
-fn show_refusal(n: usize, table: &[u8], transitions: &[u16], r: Refusal, cover: &[u8]) {
-    print_refusal(r);
-    print_kept(cover, b"buffer");
-    end_with(verify(n, table, transitions, &[0u8; 0]));
-}
-
-// Both calls on a problem: the minimiser with this buffer, and the verifier on what the minimiser wrote.
-fn both_with(name: &[u8], n: usize, table: &[u8], transitions: &[u16], cover: &mut [u8]) {
-    start_with(name);
-    fill(cover, MARK);
-    match minimise(n, table, transitions, cover) {
-        Minimised::Refused(r) => show_refusal(n, table, transitions, r, cover),
-        Minimised::Products(count) => show(n, table, transitions, count, cover),
+// The minimiser's answer, and how many bytes of the buffer are its network.
+fn print_answer(n: usize, made: Minimised, cover: &[u8]) -> usize
+    ensures { λ r. ⌜ r ≤ length (now (cover .entry)) ⌝ }
+{
+    match made {
+        Minimised::Refused(r) => {
+            print_refusal(r);
+            print_kept(b"buffer", cover, 0);
+            0
+        }
+        Minimised::Products(count) => print_network(n, count, cover),
     }
 }
 
-fn both_in_part(
-    name: &[u8],
-    n: usize,
-    table: &[u8],
-    transitions: &[u16],
-    size: usize,
-    cover: &mut [u8],
-) {
+// The minimiser with this buffer, and the verifier on what it wrote: no products after a refusal.
+fn both_with(n: usize, table: &[u8], list: &[u16], cover: &mut [u8]) {
+    let made = answer(n, table, list, cover);
+    let end = print_answer(n, made, cover);
+    verifies(n, table, list, &cover[0..end]);
+}
+
+fn both_in_part(n: usize, table: &[u8], list: &[u16], size: usize, cover: &mut [u8]) {
     if size <= cover.len() {
-        both_with(name, n, table, transitions, &mut cover[0..size]);
+        both_with(n, table, list, &mut cover[0..size]);
     }
 }
 
-// The same in a buffer of this size, which is at most that of the longest network.
-pub(crate) fn both_in(name: &[u8], n: usize, table: &[u8], transitions: &[u16], size: usize) {
-    let mut cover = [0u8; MOST_COVER];
-    both_in_part(name, n, table, transitions, size, &mut cover);
-}
-
-// The same in a buffer of 64 bytes.
-pub(crate) fn both(name: &[u8], n: usize, table: &[u8], transitions: &[u16]) {
-    both_in(name, n, table, transitions, 64);
-}
-
-// The verifier alone.
-pub(crate) fn verifies(name: &[u8], n: usize, table: &[u8], transitions: &[u16], network: &[u8]) {
-    start_with(name);
-    end_with(verify(n, table, transitions, network));
+// The same with a buffer of this size, which is at most that of the longest network.
+pub(crate) fn both(n: usize, table: &[u8], list: &[u16], size: usize) {
+    let mut cover = [MARK; MOST_COVER];
+    both_in_part(n, table, list, size, &mut cover);
 }

@@ -1,27 +1,13 @@
-// Both calls at the edges of what they take. Each line is a case: its name, and the answer.
-mod buffer;
+// Both calls at the edges of what they take. Each line of the input is a case, or a comment after `#`; each line of the output is a
+// case's name and the answer.
 mod call;
-mod dont_care;
-mod empty;
-mod fill;
-mod fixed;
-mod inputs;
-mod list;
-mod network;
-mod order;
-mod print;
-mod required;
-mod table;
+mod case;
+mod layers;
+mod place;
+mod runs;
 
 fn main() {
-    inputs::run();
-    table::run();
-    list::run();
-    required::run();
-    buffer::run();
-    network::run();
-    order::run();
-    empty::run();
-    dont_care::run();
-    fixed::run();
+    let mut text = io::large_buffer();
+    let end = io::read_full(0, &mut text);
+    case::run_all(&text[..end]);
 }

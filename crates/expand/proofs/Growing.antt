@@ -1,5 +1,5 @@
 -- The loop that grows a cube.
-use mathlib.Core.Path.{_≡_, sym, _∙_}
+use mathlib.Core.Path.{_≡_, refl, sym, ap, _∙_}
 use mathlib.Core.Bool.{Bool}
 use mathlib.Core.List.{List}
 use mathlib.Core.Option.{none, some}
@@ -8,11 +8,16 @@ use native.Mathlib.Nat.{sub-zero, sub-eq-zero-of-le}
 use native.Mathlib.Numerals.{add-one}
 use native.Mathlib.Omega.{arith}
 use Rattle.hazard.specs.Search.{find}
-use Rattle.hazard.specs.Cube.{Cube, join}
+use Rattle.hazard.specs.Cube.{Cube, has, join}
 use Rattle.hazard.specs.Sets.{Privileged}
 use Rattle.hazard.specs.Implicant.{illegal, lowestZero}
 use Rattle.hazard.specs.Growth.{Growth, Legal, Blocked, growFrom, grow}
 use Rattle.cube.proofs.Scan.{left}
+use Rattle.points.specs.declared.lowest.Found.{Found}
+use Rattle.points.specs.declared.walk.Walk.{Walk}
+use Rattle.points.specs.Found.{foundOf}
+use Rattle.points.specs.Walk.{lowestOn, Walks}
+use Rattle.points.proofs.Agree.{lowest-agrees}
 
 module _ (n : ℕ) (off : ℕ → Bool) (vs : List Privileged) where
   -- The whole answer g is what growth gives from the cube c, s steps on.
@@ -28,6 +33,10 @@ module _ (n : ℕ) (off : ℕ → Bool) (vs : List Privileged) where
   blocked-at c (suc k) s z e = rw (e, growFrom)
 
 module _ {n : ℕ} {off : ℕ → Bool} {vs : List Privileged} {c : Cube} {s : ℕ} {g : Growth} (r : Growing n off vs c s g) where
+  -- What a walk over the cube finds of the OFF-set is its lowest zero.
+  pub zero-found : {k : Walk} {f f′ : Found} → Walks n k (has c) → n ≤ 10 → foundOf f ≡ lowestOn k off → f ≡ f′ → lowestZero n off c ≡ foundOf f′
+  zero-found w few e i = sym (e ∙ lowest-agrees w few (λ x l. refl)) ∙ ap foundOf i
+
   pub growing-blocked : {z : ℕ} → lowestZero n off c ≡ some z → Blocked z s ≡ g
   growing-blocked {z} e = blocked-at n off vs c (n - s) s z e ∙ sym (r .rest)
 

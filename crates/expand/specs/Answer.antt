@@ -1,14 +1,13 @@
 -- The definitions' answers, for the code's.
 use mathlib.Core.Path.{_≡_}
-use mathlib.Core.List.{List, map}
+use mathlib.Core.List.{List}
 use Prim.Native.Nat.{ℕ, _≤_}
 use Rattle.hazard.specs.Cube as digits
 use Rattle.hazard.specs.Sets.{Required}
 use Rattle.hazard.specs.Refusal.{Refusal, growthRefusal}
 use Rattle.hazard.specs.Growth as spec
 use Rattle.cube.specs.Mask.{cubeOf, Clean}
-use Rattle.cube.specs.Entry.{privilegedIn}
-use Rattle.cube.specs.PointSet.{inSet}
+use Rattle.context.specs.Context.{offIn, privilegedOf}
 use Rattle.expand.specs.declared.growth.Grown.{Grown}
 use Rattle.expand.specs.declared.growth.Grown.the-variants.{Legal, Blocked}
 
@@ -30,8 +29,8 @@ abbrev pub LegalClean : ℕ → Grown → Type 0
 LegalClean n (Legal c s) = Clean n c
 LegalClean n (Blocked z s) = Unit {0}
 
--- The answer r of the growth of a cube.
-pub record Grows (n : ℕ) (off privileged : List ℕ) (c : digits.Cube) (r : Grown) : Type 0 where
-  pub is : grownOf n r ≡ spec.grow n (inSet off) (map (privilegedIn n) privileged) c
+-- The answer r of the growth of a cube, by the context with the words w.
+pub record Grows (n : ℕ) (w : List ℕ) (c : digits.Cube) (r : Grown) : Type 0 where
+  pub is : grownOf n r ≡ spec.grow n (offIn w) (privilegedOf n w) c
   pub few : spec.steps (grownOf n r) ≤ n
   pub clean : LegalClean n r

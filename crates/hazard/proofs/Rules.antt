@@ -14,7 +14,7 @@ use Rattle.hazard.specs.Search.{first, firstPlace}
 use Rattle.hazard.specs.Cube.{has, span}
 use Rattle.hazard.specs.Transition.{value, start, end, count, Kind, low, rise, fall, high, kindOf, functionHazard, functionHazardAt, undefinedAt}
 use Rattle.hazard.specs.Sets.{kindAt, required}
-use Rattle.hazard.specs.Refusal.{Refusal, refusal, refuseIf, inputsCheck, lengthCheck, listCheck, endsCheck, manyCheck, inputChecks, Accepted}
+use Rattle.hazard.specs.Refusal.{Refusal, refusal, refuseIf, inputsCheck, lengthCheck, bytesCheck, listCheck, endsCheck, definedCheck, manyCheck, inputChecks, Accepted}
 use Rattle.hazard.proofs.Test.{tests, T-and, no-or, eqb-of}
 use Rattle.hazard.proofs.Search.{none-some, first-none, place-none, firstOf-none, entries}
 use Rattle.hazard.proofs.Cube.{→has, span-left, span-right}
@@ -75,6 +75,26 @@ end-values (suc zero) (suc zero) h l = (refl, refl)
 end-values (suc zero) (suc (suc v)) h l = absurd (omega arith)
 end-values (suc (suc u)) v h l = absurd (omega arith)
 
+-- 3: no byte is above 2.
+pub bytes-few : (f : List ℕ) → bytesCheck f ≡ none → (x : ℕ) → value f x ≤ 2
+bytes-few f e x = elim (decLt x (length f)) [
+  | no l ↦ let d = List·getD-eq-default f 2 {n = x} (omega arith) in omega arith
+  | yes l ↦ elim (decLt 2 (value f x)) [
+    | no u ↦ omega arith
+    | yes u ↦ absurd (first-none (λ y. ltb 2 (value f y)) 0 (length f) (map-eq-none-iff (λ y. refusal 3 0 y) (first (λ y. ltb 2 (value f y)) 0 (length f)) .0 e) x (omega arith) (omega arith) (lt→ltb 2 (value f x) u))
+  ]
+]
+
+-- 6: no [A,B] has a don't care.
+pub defined-all : (n : ℕ) (f ts : List ℕ) → definedCheck n f ts ≡ none → (k : ℕ) → k < count ts → undefinedAt n f (start ts k) (end ts k) ≡ none
+defined-all n f ts e k l =
+    place-none (λ j. undefinedAt n f (start ts j) (end ts j)) 0 (count ts) .0
+    (map-eq-none-iff (λ p. refusal 6 (p .0) (p .1)) (firstPlace (λ j. undefinedAt n f (start ts j) (end ts j)) 0 (count ts)) .0 e)
+    k (omega arith) (omega arith)
+
+pub defined-value : (n : ℕ) (f : List ℕ) (a b : ℕ) → undefinedAt n f a b ≡ none → (x : ℕ) → x < 2 ^ n → T (has (span n a b) x) → value f x ≢ 2
+defined-value n f a b e x l t v = first-none (λ y. has (span n a b) y && eqb (value f y) 2) 0 (2 ^ n) e x (omega arith) (omega arith) (simp tests (t, v))
+
 -- The rules of a transition from a to b, of kind k.
 pub record RulesAt (n : ℕ) (f : List ℕ) (a b : ℕ) (k : Kind) : Type 0 where
   pub start-lt : a < 2 ^ n
@@ -95,15 +115,7 @@ module _ (n : ℕ) (f ts : List ℕ) (accepted : Accepted n f ts) where
   table-length = length-whole n f (passes (search entries depth 20))
 
   pub bytes : (x : ℕ) → value f x ≤ 2
-  bytes x = elim (decLt x (length f)) [
-    | no l ↦ let e = List·getD-eq-default f 2 {n = x} (omega arith) in omega arith
-    | yes l ↦ elim (decLt 2 (value f x)) [
-      | no u ↦ omega arith
-      | yes u ↦ absurd (first-none (λ y. ltb 2 (value f y)) 0 (length f)
-          (map-eq-none-iff (λ y. refusal 3 0 y) (first (λ y. ltb 2 (value f y)) 0 (length f)) .0 (passes (search entries depth 20)))
-          x (omega arith) (omega arith) (lt→ltb 2 (value f x) u))
-    ]
-  ]
+  bytes = bytes-few f (passes (search entries depth 20))
 
   pub list-length : (1 ≤ length ts) × (length ts % 2 ≡ 0) × (count ts ≤ 64)
   list-length = list-few ts (passes (search entries depth 20))
@@ -112,11 +124,7 @@ module _ (n : ℕ) (f ts : List ℕ) (accepted : Accepted n f ts) where
   points = ends-within n ts (passes (search entries depth 20))
 
   all-defined : (k : ℕ) → k < count ts → undefinedAt n f (start ts k) (end ts k) ≡ none
-  all-defined k l =
-      place-none (λ j. undefinedAt n f (start ts j) (end ts j)) 0 (count ts) .0
-      (map-eq-none-iff (λ p. refusal 6 (p .0) (p .1)) (firstPlace (λ j. undefinedAt n f (start ts j) (end ts j)) 0 (count ts)) .0
-      (passes (search entries depth 20)))
-      k (omega arith) (omega arith)
+  all-defined = defined-all n f ts (passes (search entries depth 20))
 
   all-kept : (k : ℕ) → k < count ts → functionHazardAt n f (start ts k) (end ts k) ≡ none
   all-kept k l =
@@ -145,7 +153,4 @@ module _ (n : ℕ) (f ts : List ℕ) (accepted : Accepted n f ts) where
       B = end ts k
 
       two : (x : ℕ) → x < 2 ^ n → T (has (span n A B) x) → value f x < 2
-      two x m t = let u = bytes x in elim (ℕ-discrete (value f x) 2) [
-        | no ne ↦ omega arith
-        | yes e ↦ absurd (first-none (λ y. has (span n A B) y && eqb (value f y) 2) 0 (2 ^ n) (all-defined k l) x (omega arith) (omega arith) (simp tests (t, e)))
-      ]
+      two x m t = let u = bytes x in let ne = defined-value n f A B (all-defined k l) x m t in omega (arith, u, ne)

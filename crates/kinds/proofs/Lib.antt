@@ -1,3 +1,1 @@
 pub mod Coded
-pub mod Labels
-pub mod Ready

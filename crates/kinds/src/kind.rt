@@ -2,9 +2,10 @@
 ghost use mathlib.Core.Path.{_≡_};
 ghost use Prim.Native.Nat.{_<_};
 ghost use lib.ListN.{length};
-ghost use Rattle.hazard.specs.Transition.{kind};
 ghost use Rattle.hazard.specs.Sets.{dynamic, startPoint};
-ghost use Rattle.kinds.specs.Codes.{kindIs};
+ghost use Rattle.context.specs.Places.{words};
+ghost use Rattle.kinds.specs.Codes.{kindIs, kindIn};
+use context::value::one_at;
 
 // 0 to 0 (static low), 0 to 1 (rise), 1 to 0 (fall), 1 to 1 (static high).
 pub enum Kind {
@@ -14,19 +15,12 @@ pub enum Kind {
     High,
 }
 
-// A byte as a number that sums may hold.
-fn wide(x: u8) -> usize
-    ensures { λ r. ⌜ (r ≡ x) × (r < 256) ⌝ }
+// The kind: the values at the two ends, as one number, select it. Both ends have a value.
+pub fn kind_of(context: &[u64], a: u16, b: u16) -> Kind
+    requires { ⌜ (length (now context) ≡ words) × (a < 1024) × (b < 1024) ⌝ }
+    ensures { λ r. ⌜ kindIs r ≡ kindIn (now (context .entry)) a b ⌝ }
 {
-    x as usize
-}
-
-// The kind: the values at the two ends, as one number, select it.
-pub fn kind_of(table: &[u8], a: u16, b: u16) -> Kind
-    requires { ⌜ (a < length (now table)) × (b < length (now table)) ⌝ }
-    ensures { λ r. ⌜ kindIs r ≡ kind (now (table .entry)) a b ⌝ }
-{
-    let code = 2 * wide(table[a as usize]) + wide(table[b as usize]);
+    let code = 2 * one_at(context, a) + one_at(context, b);
     match code {
         0 => Kind::Low,
         1 => Kind::Rise,

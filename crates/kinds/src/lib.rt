@@ -1,4 +1,3 @@
-// Transitions: their ends, their kinds, and how many labels they have.
+// Transitions: their ends and their kinds.
 pub mod kind;
-pub mod label;
 pub mod transition;

@@ -1,54 +1,68 @@
--- The columns of the privileged words, and the rows that a cube meets illegally.
-use mathlib.Core.Path.{_≡_, sym, ap, _∙_, subst⁻¹}
-use mathlib.Core.List.{List, _++_}
-use Prim.Native.Nat.{ℕ, _+_, _*_, _≤_, _<_}
+-- The privileged cubes that a cube meets illegally, by the columns.
+use mathlib.Core.Path.{_≡_, refl, sym, ap, ap₂, _∙_}
+use mathlib.Core.Bool.{Bool, true, false, not, _&&_}
+use mathlib.Core.List.{List}
+use Prim.Native.Nat.{ℕ, _+_, _*_, _/_, _%_, _≤_, _<_}
+use native.Mathlib.Numerals.{add-one}
 use native.Mathlib.Omega.{arith}
 use lib.Bits.{bitAnd, bitXor}
-use lib.ListN.{length, getD, take, drop, length-append, length-drop}
-use lib.Seq.{take-at, drop-at, getD-take, getD-drop, length-take-le}
+use lib.Dec.{eqb, ltb, ltb→lt}
+use lib.ListN.{length, getD, take, drop, length-drop}
+use lib.Seq.{getD-take, getD-drop, length-take-le}
 use Rattle.hazard.specs.Cube.{bit}
 use Rattle.hazard.specs.Implicant.{illegal}
-use Rattle.cube.specs.Mask.{digit, digitsOf}
+use Rattle.hazard.proofs.Test.{so}
+use Rattle.cube.specs.Mask.{digitAt, cubeOf}
 use Rattle.cube.specs.Entry.{privilegedIn}
-use Rattle.columns.specs.Table.{Table, Rows}
-use Rattle.columns.specs.declared.relation.Relation.the-variants.{Meets, PointInside}
-use Rattle.columns.proofs.Filling.{table-append}
-use Rattle.columns.proofs.Narrowing.{narrowed, wordAt, word-is, narrowed-rows, digit-lt}
-use Rattle.columns.proofs.Selecting.{rows-less}
-use Rattle.legality.specs.Columns.{Columns}
+use Rattle.cube.specs.declared.mask.Cube.{Cube}
+use Rattle.cube.proofs.WordMask.{both-test, less-test}
+use Rattle.columns.proofs.Relating.{and-true, and-assoc, digit-lt}
+use Rattle.blocks.specs.Blocks.{stride, wordAt, allowed, allowedTo}
+use Rattle.context.specs.Places.{countIn, privilegedWords, meetsIn, startsIn}
+use Rattle.legality.specs.Ready.{Ready, Rows}
 
--- The first 30 words of 60 overwritten with one table, then the other 30 with a second.
-pub columns-made : {n : ℕ} {privileged : List ℕ} (columns first second : List ℕ) → n ≤ 10 → length privileged ≤ 64 → length columns ≡ 60
-    → length first ≡ length (take 30 columns) → length second ≡ length (take 30 (drop 30 (first ++ drop 30 columns)))
-    → Table Meets n privileged first → Table PointInside n privileged second
-    → Columns n privileged (take 30 (first ++ drop 30 columns) ++ (second ++ drop 30 (drop 30 (first ++ drop 30 columns))))
-columns-made {n} {privileged} columns first second l few w f s t u =
-    let p : length first ≡ 30 = f ∙ length-take-le 30 columns (omega arith) in
-    let rest : length (drop 30 columns) ≡ 30 = omega (arith, length-drop 30 columns) in
-    let q : length second ≡ 30 = s ∙ ap (λ (m : List ℕ). length (take 30 m)) (drop-at first (drop 30 columns) 30 p) ∙ length-take-le 30 (drop 30 columns) (omega (arith, rest)) in
-    let none : length behind ≡ 0 = omega (arith, length-drop 30 (drop 30 (first ++ drop 30 columns)), length-drop 30 (first ++ drop 30 columns), length-append first (drop 30 columns), rest) in
-    subst⁻¹ (λ (m : List ℕ). Columns n privileged (m ++ (second ++ behind))) (take-at first (drop 30 columns) 30 p)
-    (record {
-      inputs = l;
-      few = few;
-      whole = omega (arith, length-append first (second ++ behind), length-append second behind, none);
-      meets· = rw (take-at first (second ++ behind) 30 p) t;
-      starts = rw (drop-at first (second ++ behind) 30 p) (table-append behind u (omega arith));
-    })
+-- r is the set of the first `count` rows, as far as they allow the digits of the inputs below i.
+pub record Narrowed (columns : List ℕ) (c : Cube) (count i r : ℕ) : Type 0 where
+  pub is : (k : ℕ) → k < 64 → eqb (bit r k) 1 ≡ (ltb k count && allowedTo columns k c i)
+
+pub narrowed-start : (columns : List ℕ) (c : Cube) {count r : ℕ} → ((t : ℕ) → t < 64 → eqb (bit r t) 1 ≡ ltb (64 * 0 + t) count) → Narrowed columns c count 0 r
+narrowed-start columns c {count} h =
+    record { is = λ k l. let e : 64 * 0 + k ≡ k = omega arith in h k l ∙ ap (λ (y : ℕ). ltb y count) e ∙ and-true (ltb k count) }
+
+narrowed-step : {columns : List ℕ} {c : Cube} {count i r w : ℕ} → Narrowed columns c count i r → w ≡ wordAt columns i (digitAt c i) 0 → Narrowed columns c count (i + 1) (bitAnd r w)
+narrowed-step {columns} {c} {count} {i} {r} {w} s e =
+    record {
+      is = λ k l. both-test r w k ∙ ap₂ _&&_ (s .is k l) (here k l) ∙ and-assoc (ltb k count) (allowedTo columns k c i) (allowed columns k i (digitAt c i)) ∙ ap (λ (j : ℕ). ltb k count && allowedTo columns k c j) (sym (add-one i));
+    }
   where
-    -- What is behind the second table: nothing.
-    behind : List ℕ
-    behind = drop 30 (drop 30 (first ++ drop 30 columns))
+    here : (k : ℕ) → k < 64 → eqb (bit w k) 1 ≡ allowed columns k i (digitAt c i)
+    here k l =
+        let q : 0 ≡ k / 64 = omega arith in
+        let p : k ≡ k % 64 = omega arith in
+        ap (λ (y : ℕ). eqb (bit y k) 1) (e ∙ ap (wordAt columns i (digitAt c i)) q) ∙ ap (λ (j : ℕ). eqb (bit (wordAt columns i (digitAt c i) (k / 64)) j) 1) p
 
-module _ {n : ℕ} {privileged columns : List ℕ} (s : Columns n privileged columns) (care value : ℕ) where
-  -- The two words that the code reads for input i.
-  module _ {i d : ℕ} (h : i < n) (e : d ≡ digit (bit care i) (bit value i)) where
-    pub meets-word : getD columns (3 * i + d) 0 ≡ wordAt (take 30 columns) care value i
-    meets-word = sym (getD-take 30 columns (3 * i + d) 0 (omega (arith, e, digit-lt care value i, s .inputs))) ∙ word-is (take 30 columns) care value i e
+-- How many privileged cubes there are.
+pub count-is : {n : ℕ} {w : List ℕ} → Ready n w → length (privilegedWords w) ≡ countIn w
+count-is {w = w} s = length-take-le (countIn w) (drop 32 w) (omega (arith, s .few, s .long, length-drop 32 w))
 
-    pub start-word : getD columns (30 + (3 * i + d)) 0 ≡ wordAt (drop 30 columns) care value i
-    start-word = sym (getD-drop 30 columns (3 * i + d) 0) ∙ word-is (drop 30 columns) care value i e
+module _ {n : ℕ} {w : List ℕ} (s : Ready n w) (c : Cube) where
+  -- A word of the 30 columns that begin at a place, as the code reads it.
+  word-in : (from i d : ℕ) → i < n → d < 3 → from + 30 ≤ length w → getD w (from + (3 * i + d)) 0 ≡ wordAt (take 30 (drop from w)) i d 0
+  word-in from i d h l m =
+      let long : length (take 30 (drop from w)) ≡ 30 = length-take-le 30 (drop from w) (omega (arith, m, length-drop from w)) in
+      let one : stride (take 30 (drop from w)) ≡ 1 = omega (arith, long) in
+      let p : 3 * i + d ≡ 1 * (3 * i + d) + 0 = omega arith in
+      sym (getD-take 30 (drop from w) (3 * i + d) 0 (omega (arith, s .inputs)) ∙ getD-drop from w (3 * i + d) 0)
+      ∙ ap (λ (q : ℕ). getD (take 30 (drop from w)) q 0) p ∙ ap (λ (q : ℕ). getD (take 30 (drop from w)) (q * (3 * i + d) + 0) 0) (sym one)
 
-  pub illegal-are : {all m h : ℕ} → m ≡ narrowed (wordAt (take 30 columns) care value) n all → h ≡ narrowed (wordAt (drop 30 columns) care value) n all
-      → Rows (λ w. illegal (digitsOf n care value) (privilegedIn n w)) privileged all (bitXor m (bitAnd m h))
-  illegal-are {all} p q = rw (p, q) (rows-less (narrowed-rows care value all (s .meets·)) (narrowed-rows care value all (s .starts)))
+  -- A turn of the loop: a word that the code reads for input i.
+  pub column-step : (from : ℕ) → from + 30 ≤ length w → {i d count r : ℕ} → i < n → d ≡ digitAt c i → Narrowed (take 30 (drop from w)) c count i r → Narrowed (take 30 (drop from w)) c count (i + 1) (bitAnd r (getD w (from + (3 * i + d)) 0))
+  column-step from m {i} {d} h e t = narrowed-step t (word-in from i d h (omega (arith, e, digit-lt (c .care) (c .value) i)) m ∙ ap (λ (y : ℕ). wordAt (take 30 (drop from w)) i y 0) e)
+
+  -- The rows that are met, without those whose start point is contained.
+  pub illegal-are : {m h : ℕ} → Narrowed (meetsIn w) c (countIn w) n m → Narrowed (startsIn w) c (countIn w) n h → Rows (λ v. illegal (cubeOf n c) (privilegedIn n v)) (privilegedWords w) (bitXor m (bitAnd m h))
+  illegal-are {m} {h} p q = record { is = λ k l. less-test m h k ∙ ap₂ (λ (a b : Bool). a && not b) (p .is k l) (q .is k l) ∙ row k (ltb k (countIn w)) refl ∙ ap (λ (y : ℕ). ltb k y && illegal (cubeOf n c) (privilegedIn n (getD (privilegedWords w) k 0))) (sym (count-is s)) }
+    where
+      row : (k : ℕ) (b : Bool) → ltb k (countIn w) ≡ b → ((b && allowedTo (meetsIn w) k c n) && not (b && allowedTo (startsIn w) k c n)) ≡ (b && illegal (cubeOf n c) (privilegedIn n (getD (privilegedWords w) k 0)))
+      row k true e = let l = ltb→lt k (countIn w) (so e) in ap₂ (λ (a b : Bool). a && not b) (s .meets· .is k (omega (arith, l, count-is s)) c) (s .starts· .is k (omega (arith, l, count-is s)) c)
+      row k false e = refl

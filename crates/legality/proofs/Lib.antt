@@ -1,1 +1,4 @@
+pub mod Placing
+pub mod Storing
 pub mod Illegal
+pub mod Selecting

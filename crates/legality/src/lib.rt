@@ -1,2 +1,3 @@
-// Illegal intersections of a cube with the privileged cubes.
+// The privileged cubes of a context, and the illegal intersections of a cube with them.
 pub mod meeting;
+pub mod store;

@@ -1,12 +1,14 @@
 -- From the answer for the stored sets to the minimiser's promise.
 use mathlib.Core.Path.{_≡_, refl, sym, ap, _∙_}
+use mathlib.Core.Bool.{Bool}
 use mathlib.Core.List.{List, [], _∷_, _++_, map}
 use mathlib.Core.Option.{Option, none, some}
-use Prim.Native.Nat.{ℕ, _*_, _≤_, _<_}
-use native.Mathlib.Nat.{mul-comm, mul-le-mul, not-le-of-lt}
+use Prim.Native.Nat.{ℕ, _-_, _*_, _≤_, _<_}
+use native.Mathlib.Nat.{sub-zero, mul-comm, mul-le-mul, not-le-of-lt}
 use native.Mathlib.Omega.{arith}
 use lib.Dec.{ltb, lt→ltb, ltb→lt}
 use lib.ListN.{length, take, drop, length-map}
+use lib.Seq.{take-all}
 use Rattle.hazard.specs.Limits.{mostRequired, mostCover}
 use Rattle.hazard.specs.Search.{firstOf}
 use Rattle.hazard.specs.Transition as transition
@@ -17,27 +19,35 @@ use Rattle.hazard.proofs.Search.{none-some, firstOf-left, firstOf-right, firstO
 use Rattle.hazard.proofs.Rules.{few-inputs, required-few}
 use Rattle.hazard.proofs.Minimal.{minimal}
 use Rattle.hazard.proofs.Promise.{promise-refused, promise-written}
-use Rattle.cube.specs.Entry.{requiredIn, privilegedIn}
-use Rattle.cube.specs.PointSet.{inSet}
-use Rattle.sets.specs.Store.{StoredSets}
+use Rattle.cube.specs.Entry.{requiredIn, cubeIn, networkIn}
+use Rattle.context.specs.Context.{offIn, privilegedOf, tableIn}
+use Rattle.context.proofs.Values.{off-table}
+use Rattle.checks.specs.Problem.{Problem}
 use Rattle.refusal.proofs.Checks.{refuse-yes, refuse-no}
-use Rattle.selection.specs.Answer.{Answered}
-use Rattle.selection.proofs.Answering.{refused-kept}
+use Rattle.selection.specs.declared.select.Selected.{Selected}
+use Rattle.selection.specs.Select.{Selects}
+use Rattle.selection.specs.Answer.{Writable, Answered}
+use Rattle.selection.proofs.Answering.{writable, refused-kept}
 
--- The stored sets are the problem's.
-module _ {n : ℕ} {f ts off vs rs : List ℕ} {p r : ℕ} (s : StoredSets n f ts off vs rs p r) where
-  pub required-length : length (take r rs) ≡ length (sets.required n f ts)
-  required-length = sym (length-map (take r rs) (requiredIn n)) ∙ ap (λ (l : List sets.Required). length l) (s .required·)
+-- The problem's sets are those of its context.
+module _ {n : ℕ} {ts w few : List ℕ} {k : ℕ} (p : Problem n (tableIn n w) ts w few k) where
+  pub problem-answered : {before after : List ℕ} {a : Minimised} → Answered n (offIn w) (privilegedOf n w) (sets.required n (tableIn n w) ts) before after a
+      → Answered n (transition.off (tableIn n w)) (sets.privileged n (tableIn n w) ts) (sets.required n (tableIn n w) ts) before after a
+  problem-answered h = rw (off-table (p .ready .planes), p .privileged·) at h
 
-  pub required-fits : {b : ℕ} → length (sets.required n f ts) ≤ b → length (take r rs) ≤ b
-  required-fits l = rw required-length l
+  pub problem-few : k ≤ length few → map (requiredIn n) (take (k - 0) few) ≡ sets.required n (tableIn n w) ts
+  problem-few l = ap (λ (j : ℕ). map (requiredIn n) (take j few)) (sub-zero k) ∙ p .few· ∙ take-all (length few) (sets.required n (tableIn n w) ts) (omega (arith, l, p .count·))
 
-  pub required-room : {b : ℕ} → length (sets.required n f ts) * n ≤ b → length (take r rs) * n ≤ b
-  required-room l = rw required-length l
+-- A buffer with n bytes for each stored required cube has room for what select answers.
+pub stored-writable : (n : ℕ) (off : ℕ → Bool) (vs : List sets.Privileged) (required products cover : List ℕ) (r : Selected) → Selects n off vs (map (requiredIn n) required) products r
+    → length required ≤ mostRequired → length required * n ≤ length cover → Writable n products cover r
+stored-writable n off vs required products cover r h few room =
+    let e = length-map required (requiredIn n) in
+    writable n off vs (map (requiredIn n) required) products cover r h (omega (arith, e, few)) (rw e room)
 
-  pub answered-sets : {before after : List ℕ} {a : Minimised} → Answered n (inSet off) (map (privilegedIn n) (take p vs)) (map (requiredIn n) (take r rs)) before after a
-      → Answered n (transition.off f) (sets.privileged n f ts) (sets.required n f ts) before after a
-  answered-sets h = rw (s .off·, s .privileged·, s .required·) at h
+-- The stored required cubes, as the part that is handed on.
+pub part-few : (n : ℕ) {rs : List sets.Required} (words : List ℕ) (k : ℕ) → map (requiredIn n) (take (k - 0) words) ≡ rs → length (take (k - 0) words) ≡ length rs
+part-few n words k e = sym (length-map (take (k - 0) words) (requiredIn n)) ∙ ap length e
 
 -- The promise, of each way to answer.
 module _ (n : ℕ) (f ts before : List ℕ) where
@@ -76,9 +86,11 @@ module _ (n : ℕ) (f ts before : List ℕ) where
         go : (o : Option Refusal) → blocking n f ts ≡ o → Promise n f ts before after a
         go (some q) e = rw (h .refused q e .0, refused-kept n (transition.off f) (sets.privileged n f ts) (sets.required n f ts) h e) (promise-refused n f ts before (checks ∙ e))
         go none e =
-            let (k, p, s) = h .network e in
-            rw (p, s .size) (promise-written n f ts before (s .net) (checks ∙ e)
-            (minimal n f ts ok (s .net) (s .primes) (s .covers) (s .own) (s .few)) (s .is ∙ ap (λ (z : ℕ). bytesOf (s .net) ++ drop z before) (mul-comm (length (s .net)) n)))
+            let s = h .network e in
+            let net = networkIn n (s .words) in
+            let size : length net ≡ length (s .words) = length-map (s .words) (cubeIn n) in
+            rw (s .size, ← size) (promise-written n f ts before net (checks ∙ e)
+            (minimal n f ts ok net (s .kept .primes) (s .kept .covers) (s .kept .own) (rw size (s .kept .few))) (s .is ∙ ap (λ (z : ℕ). bytesOf net ++ drop z before) (mul-comm (length (s .words)) n ∙ ap (λ (z : ℕ). n * z) (sym size))))
 
     -- The bytes that are asked for are few.
     pub bytes-few : (count : ℕ) → count ≡ length (sets.required n f ts) → n * count ≤ mostCover

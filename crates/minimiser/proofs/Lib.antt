@@ -1,2 +1,1 @@
-pub mod Rooms
 pub mod Answering

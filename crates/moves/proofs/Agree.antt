@@ -11,9 +11,9 @@ use Rattle.hazard.specs.Cube.{flip}
 use Rattle.hazard.specs.Transition.{value, movable, further}
 use Rattle.hazard.proofs.Point.{flip-lt}
 use Rattle.cube.specs.PointSet.{inSet}
-use Rattle.points.specs.Plane.{Plane}
-use Rattle.points.proofs.Walk.{Agrees}
-use Rattle.points.proofs.Agree.{first-same, plane-in, plane-agrees}
+use Rattle.points.proofs.Agree.{first-same}
+use Rattle.context.specs.Planes.{Plane}
+use Rattle.context.proofs.PlaneWord.{plane-in}
 use Rattle.moves.specs.Further.{movesInto, furtherIn}
 use Rattle.moves.specs.Turn.{turns, lasts}
 
@@ -25,16 +25,8 @@ further-is n {f} {words} {v} a b p e x l =
 
 -- The points of a plane from which a move leads into another plane, and those from which no move leads into it.
 module _ (n : ℕ) {f : List ℕ} (e : length f ≡ 2 ^ n) where
-  pub turns-agree : {v u : ℕ} {from to : List ℕ} (a b : ℕ) → Plane f v from → Plane f u to → Agrees (turns n (inSet from) (inSet to) a b) (λ x. eqb (value f x) v && further n f a b x u) (2 ^ n)
-  turns-agree {to = to} a b p q =
-      record {
-        in· = λ x l. ap₂ _&&_ (plane-agrees n e p .in· x l) (further-is n a b q e x l);
-        past = λ x l. ap (λ (t : Bool). t && furtherIn n (inSet to) a b x) (plane-agrees n e p .past x l);
-      }
+  pub turns-agree : {v u : ℕ} {from to : List ℕ} (a b : ℕ) → Plane f v from → Plane f u to → (x : ℕ) → x < 2 ^ n → turns n (inSet from) (inSet to) a b x ≡ (eqb (value f x) v && further n f a b x u)
+  turns-agree a b p q x l = ap₂ _&&_ (plane-in p x (omega (arith, e))) (further-is n a b q e x l)
 
-  pub lasts-agree : {v : ℕ} {words : List ℕ} (a b : ℕ) → Plane f v words → Agrees (lasts n (inSet words) a b) (λ x. eqb (value f x) v && not (further n f a b x v)) (2 ^ n)
-  lasts-agree {words = words} a b p =
-      record {
-        in· = λ x l. ap₂ (λ (s t : Bool). s && not t) (plane-agrees n e p .in· x l) (further-is n a b p e x l);
-        past = λ x l. ap (λ (t : Bool). t && not (furtherIn n (inSet words) a b x)) (plane-agrees n e p .past x l);
-      }
+  pub lasts-agree : {v : ℕ} {words : List ℕ} (a b : ℕ) → Plane f v words → (x : ℕ) → x < 2 ^ n → lasts n (inSet words) a b x ≡ (eqb (value f x) v && not (further n f a b x v))
+  lasts-agree a b p x l = ap₂ (λ (s t : Bool). s && not t) (plane-in p x (omega (arith, e))) (further-is n a b p e x l)

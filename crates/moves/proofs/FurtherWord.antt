@@ -19,7 +19,7 @@ use Rattle.cube.specs.PointSet.{inSet}
 use Rattle.cube.proofs.WordMask.{high-bit, low-bit, mod-bit, no-bit, and-test}
 use Rattle.points.specs.PointWord.{WordOf}
 use Rattle.moves.specs.Further.{Side, Within, movesFrom}
-use Rattle.points.proofs.PlaneWord.{one-is}
+use Rattle.context.proofs.PlaneWord.{one-is}
 
 -- All the numbers below size pass a test.
 abbrev pub all : (ℕ → Bool) → ℕ → Bool

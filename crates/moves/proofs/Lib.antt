@@ -1,4 +1,3 @@
 pub mod FurtherWord
 pub mod Movement
-pub mod TurnWord
 pub mod Agree

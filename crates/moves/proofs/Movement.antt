@@ -23,7 +23,7 @@ use Rattle.cube.proofs.ByWords.{Lowest, lowest-bit}
 use Rattle.cube.proofs.WordMask.{no-bit, xor-bits}
 use Rattle.points.specs.PointWord.{WordOf}
 use Rattle.moves.specs.Further.{movesFrom, movesInto, furtherIn}
-use Rattle.points.proofs.PlaneWord.{bit-past}
+use Rattle.context.proofs.PlaneWord.{bit-past}
 use Rattle.points.proofs.Agree.{first-same}
 
 or-bits : (a b i : ℕ) → bit (bitOr a b) i ≡ bitOr (bit a i) (bit b i)

@@ -1,28 +1,19 @@
--- The tests by words, and the definitions' tests.
-use mathlib.Core.Path.{_≡_, refl, sym, ap, _∙_}
+-- What a walk finds, and the definitions' searches.
+use mathlib.Core.Path.{_≡_, refl, sym, ap, ap₂, _∙_}
 use mathlib.Core.Bool.{Bool, true, false, _&&_}
-use mathlib.Core.List.{List}
 use mathlib.Core.Option.{Option, none, some}
-use Prim.Native.Nat.{ℕ, zero, suc, _+_, _/_, _%_, _^_, _≤_, _<_}
-use native.Mathlib.Nat.{lt-of-lt-of-le}
+use Prim.Native.Nat.{ℕ, zero, suc, _+_, _^_, _≤_, _<_}
 use native.Mathlib.Omega.{arith}
-use lib.Dec.{eqb}
-use lib.ListN.{length}
+use native.Mathlib.Decide.{decLt}
 use lib.Pow.{pow-mono}
+use borrow.Author.Tests.{lt-ltb, le-ltb}
 use Rattle.hazard.specs.Search.{first}
-use Rattle.hazard.specs.Cube.{Cube, bit, has}
-use Rattle.hazard.specs.Transition.{value}
-use Rattle.cube.specs.declared.mask.Cube as masks
-use Rattle.cube.specs.Mask.{cubeOf, Clean, Stands}
-use Rattle.cube.specs.WordMask.{Marks, Words}
-use Rattle.cube.proofs.Masks.{has-masks}
-use Rattle.cube.proofs.ByWords.{word-bit}
-use Rattle.cube.specs.PointSet.{inSet}
-use Rattle.points.specs.PointWord.{PointsOf}
-use Rattle.points.specs.Plane.{Plane}
-use Rattle.points.proofs.PlaneWord.{valued-in, valued-out}
-use Rattle.points.proofs.Masked.{and-assoc}
-use Rattle.points.proofs.Walk.{true-false, Agrees, inWords}
+use Rattle.hazard.proofs.Test.{is, isnt}
+use Rattle.hazard.proofs.Search.{First, nowhere, lowest, first-is}
+use Rattle.cube.proofs.ByWords.{first-at, first-not}
+use Rattle.points.specs.declared.walk.Walk.{Walk}
+use Rattle.points.specs.Walk.{visits, lowestOn, Walks}
+use Rattle.points.proofs.Masked.{true-false, and-false}
 
 -- Tests that agree find the same.
 pub first-same : (s t : ℕ → Bool) (from size : ℕ) → ((x : ℕ) → from ≤ x → x < from + size → s x ≡ t x) → first s from size ≡ first t from size
@@ -36,31 +27,35 @@ first-same s t from (suc size) h = go (s from) (t from) (h from (omega arith) (o
     go false true e ih = absurd (true-false (sym e))
     go false false e ih = ih
 
--- A point of the table is in the plane of its value.
-pub plane-in : {f : List ℕ} {v : ℕ} {words : List ℕ} → Plane f v words → (x : ℕ) → x < length f → inSet words x ≡ eqb (value f x) v
-plane-in {f} {v} p x l = p .is x ∙ valued-in f v x l
+-- Two tests agree on the numbers below size, and no other number of ten bits passes the first.
+pub record Agrees (test like : ℕ → Bool) (size : ℕ) : Type 0 where
+  pub in· : (x : ℕ) → x < size → test x ≡ like x
+  pub past : (x : ℕ) → size ≤ x → x < 1024 → test x ≡ false
 
--- A cube of n inputs is one of 10.
-pub stands-ten : {n : ℕ} {c : masks.Cube} {ds : Cube} → Stands n c ds → n ≤ 10 → Clean 10 c
-stands-ten s h = record { small = lt-of-lt-of-le (s .fits .small) (pow-mono h); clean = s .fits .clean }
+-- Then they find the same.
+pub first-agrees : {test like : ℕ → Bool} {size : ℕ} → Agrees test like size → size ≤ 1024 → first test 0 1024 ≡ first like 0 size
+first-agrees {test} {like} {size} a l = go (first like 0 size) (first-is like 0 size)
+  where
+    go : (o : Option ℕ) → First like 0 size o → first test 0 1024 ≡ o
+    go none (nowhere k) = sym (first-not test 1024 (λ y u. out y u (decLt y size)))
+      where
+        out : (y : ℕ) → y < 1024 → Dec (y < size) → test y ≡ false
+        out y u (yes i) = a .in· y i ∙ isnt (like y) (k y (omega arith) (omega arith))
+        out y u (no i) = a .past y (omega (arith, i)) u
+    go (some x) (lowest t b u k) = sym (first-at test x 1024 (a .in· x (omega arith) ∙ is {b = like x} t) (omega arith) (λ y i. a .in· y (omega arith) ∙ isnt (like y) (k y (omega arith) i)))
 
--- The points of a cube that pass, by its words and its mask.
-module _ {n m : ℕ} {c h : masks.Cube} {ds : Cube} (s : Stands n c ds) (a : Marks c 6 m) (k : Words c h) where
-  pub words-cube : (test : ℕ → Bool) (x : ℕ) → inWords h m test x ≡ (has ds x && test x)
-  words-cube test x =
-      sym (and-assoc (has (cubeOf 4 h) (x / 64)) (eqb (bit m (x % 64)) 1) (test x))
-      ∙ ap (λ (b : Bool). b && test x) (word-bit k a x ∙ has-masks n (c .care) (c .value) x (s .fits .small) ∙ ap (λ (d : Cube). has d x) (s .is))
+-- A walk over the points that pass a test.
+pub walk-agrees : {n : ℕ} {k : Walk} {points : ℕ → Bool} → Walks n k points → n ≤ 10 → {test like : ℕ → Bool} → ((x : ℕ) → x < 2 ^ n → test x ≡ like x) → Agrees (λ x. visits k x && test x) (λ x. points x && like x) (2 ^ n)
+walk-agrees {n} {k} {points} w few {test} {like} h =
+    record {
+      in· = λ x l. let u : x < 1024 = omega (arith, pow-mono {j = 10} few) in ap₂ _&&_ (w .is x u ∙ ap (λ (b : Bool). points x && b) (lt-ltb x (2 ^ n) l) ∙ and-true (points x)) (h x l);
+      past = λ x l u. ap (λ (b : Bool). b && test x) (w .is x u ∙ ap (λ (b : Bool). points x && b) (le-ltb x (2 ^ n) l) ∙ and-false (points x));
+    }
+  where
+    and-true : (b : Bool) → (b && true) ≡ b
+    and-true true = refl
+    and-true false = refl
 
-  pub agrees : {test like : ℕ → Bool} {size : ℕ} → Agrees test like size → Agrees (inWords h m test) (λ x. has ds x && like x) size
-  agrees {test} g = record { in· = λ x l. words-cube test x ∙ ap (λ (b : Bool). has ds x && b) (g .in· x l); past = λ x l. words-cube test x ∙ ap (λ (b : Bool). has ds x && b) (g .past x l) ∙ gone (has ds x) }
-    where
-      gone : (b : Bool) → (b && false) ≡ false
-      gone true = refl
-      gone false = refl
-
--- A plane is a set of points of n inputs.
-pub plane-points : {n v : ℕ} {f words : List ℕ} → Plane f v words → length f ≡ 2 ^ n → PointsOf n words
-plane-points {v = v} {f = f} p e = record { long = p .long; none = λ x l. p .is x ∙ valued-out f v x (omega (arith, e)) }
-
-pub plane-agrees : (n : ℕ) {f : List ℕ} → length f ≡ 2 ^ n → {v : ℕ} {words : List ℕ} → Plane f v words → Agrees (inSet words) (λ x. eqb (value f x) v) (2 ^ n)
-plane-agrees n e {v} p = record { in· = λ x l. plane-in p x (omega (arith, e)); past = plane-points p e .none }
+pub lowest-agrees : {n : ℕ} {k : Walk} {points : ℕ → Bool} → Walks n k points → n ≤ 10 → {test like : ℕ → Bool} → ((x : ℕ) → x < 2 ^ n → test x ≡ like x) → lowestOn k test ≡ first (λ x. points x && like x) 0 (2 ^ n)
+unfolding lowestOn
+lowest-agrees w few h = first-agrees (walk-agrees w few h) (pow-mono {j = 10} few)

@@ -1,6 +1,5 @@
-pub mod PlaneWord
 pub mod Masked
-pub mod Walk
+pub mod Stepping
+pub mod Looking
 pub mod Agree
-pub mod Ready
 pub mod Members

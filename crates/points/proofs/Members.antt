@@ -1,7 +1,7 @@
 -- The points that pass a test, word by word.
 use mathlib.Core.Path.{_≡_, refl, sym, ap, ap₂, _∙_}
 use mathlib.Core.Logic.{_≢_}
-use mathlib.Core.Bool.{Bool, true, false}
+use mathlib.Core.Bool.{Bool, true, false, _&&_}
 use mathlib.Core.List.{List, [], _∷_, _++_, append-nil}
 use Prim.Native.Nat.{ℕ, zero, suc, _+_, _-_, _*_, _/_, _%_, _^_, _≤_, _<_}
 use native.Mathlib.Nat.{add-zero, zero-add}
@@ -9,23 +9,23 @@ use native.Mathlib.Numerals.{add-one}
 use native.Mathlib.Decide.{ℕ-discrete, decLt}
 use native.Mathlib.Omega.{arith}
 use lib.Dec.{eqb}
-use lib.Count.{trailingZeros, ones, ones-step, ones-le}
-use lib.ListN.{length}
+use lib.Count.{trailingZeros}
 use lib.Pow.{pow-pos}
-use borrow.Author.Tests.{eqb-true, eqb-false, eq-eqb}
+use borrow.Author.Tests.{eq-eqb}
 use Rattle.hazard.specs.Search.{those}
 use Rattle.hazard.specs.Cube.{bit, flip}
 use Rattle.hazard.proofs.Test.{so-not}
-use Rattle.hazard.proofs.Point.{bit-zero, bit-suc, flip-down, flip-same, flip-other}
-use Rattle.cube.proofs.Bits.{half-lt}
+use Rattle.hazard.proofs.Point.{flip-down, flip-same, flip-other}
 use Rattle.cube.proofs.Scan.{left, those-skip}
-use Rattle.cube.specs.declared.mask.Cube.{Cube}
-use Rattle.cube.specs.Mask.{cubeOf}
-use Rattle.cube.specs.Next.{Next}
 use Rattle.cube.proofs.ByWords.{Lowest, lowest-bit}
 use Rattle.cube.proofs.WordMask.{no-bit}
 use Rattle.points.specs.PointWord.{WordOf, pointsIn, Below}
-use Rattle.points.proofs.Walk.{true-false, Agrees, inWords, Visit, visit-before, visit-gap}
+use Rattle.points.specs.declared.walk.Walk.{Walk}
+use Rattle.points.specs.declared.walk.Step.{Step}
+use Rattle.points.specs.Walk.{visits, Steps}
+use Rattle.points.proofs.Masked.{true-false}
+use Rattle.points.proofs.Looking.{visit-gap}
+use Rattle.points.proofs.Agree.{Agrees}
 
 -- Tests that agree give the same list, ranges one after the other give lists one after the other, and where none passes there is none.
 those-same : (s t : ℕ → Bool) (from size : ℕ) → ((x : ℕ) → from ≤ x → x < from + size → s x ≡ t x) → those s from size ≡ those t from size
@@ -51,7 +51,7 @@ those-split t from (suc a) b =
     go true ih = ap (λ (l : List ℕ). from ∷ l) ih
     go false ih = ih
 
-those-none : (t : ℕ → Bool) (from size : ℕ) → ((x : ℕ) → from ≤ x → x < from + size → t x ≡ false) → those t from size ≡ []
+pub those-none : (t : ℕ → Bool) (from size : ℕ) → ((x : ℕ) → from ≤ x → x < from + size → t x ≡ false) → those t from size ≡ []
 those-none t from zero h = refl
 those-none t from (suc size) h = go (t from) (h from (omega arith) (omega arith)) (those-none t (suc from) size (λ x a b. h x (omega arith) (omega arith)))
   where
@@ -73,7 +73,7 @@ unfolding ahead
 ahead-all {test} {like} {size} a h =
     let e : 1024 ≡ size + (1024 - size) = omega arith in
     ap (those test 0) e ∙ those-split test 0 size (1024 - size)
-    ∙ ap₂ (λ (l m : List ℕ). l ++ m) (those-same test like 0 size (λ x u l. a .in· x (omega arith))) (those-none test (0 + size) (1024 - size) (λ x u l. a .past x (omega arith)))
+    ∙ ap₂ (λ (l m : List ℕ). l ++ m) (those-same test like 0 size (λ x u l. a .in· x (omega arith))) (those-none test (0 + size) (1024 - size) (λ x u l. a .past x (omega arith) (omega arith)))
     ∙ append-nil (those like 0 size)
 
 pub ahead-word : {test : ℕ → Bool} {w r : ℕ} → WordOf test w r → w < 16 → ahead test w ≡ pointsIn w r ++ ahead test (w + 1)
@@ -84,39 +84,19 @@ ahead-word {test} {w} {r} s h =
     ap (those test (64 * w)) e ∙ those-split test (64 * w) 64 (1024 - 64 * (w + 1))
     ∙ ap₂ (λ (l m : List ℕ). l ++ m) (those-same test (λ x. eqb (bit r (x % 64)) 1) (64 * w) 64 (λ x u l. sym (s .bits x (omega arith)))) (ap (λ (k : ℕ). those test k (1024 - 64 * (w + 1))) q)
 
--- A walk over the words of a cube.
-pub ahead-start : {h : Cube} {w : ℕ} → Visit h w → (m : ℕ) (test : ℕ → Bool) {like : ℕ → Bool} {size : ℕ} → Agrees (inWords h m test) like size → size ≤ 1024 → ahead (inWords h m test) (h .value) ≡ those like 0 size
-ahead-start {h} s m test a l = sym (ahead-skip 0 (h .value) (omega arith) (λ x u v w. visit-before s m test x v)) ∙ ahead-all a l
+-- A walk over the points of a cube.
+pub ahead-start : {k : Walk} {s : Step} → Steps k 0 s → (test : ℕ → Bool) {like : ℕ → Bool} {size : ℕ} → Agrees (λ x. visits k x && test x) like size → size ≤ 1024 → ahead (λ x. visits k x && test x) (s .word) ≡ those like 0 size
+ahead-start {s = s} t test a l = sym (ahead-skip 0 (s .word) (omega arith) (λ x u v i. visit-gap t test x u v i)) ∙ ahead-all a l
 
-pub ahead-more : {h : Cube} {w v : ℕ} → Visit h w → Next 4 (cubeOf 4 h) w v → (m : ℕ) (test : ℕ → Bool) {r : ℕ} → WordOf (inWords h m test) w r → w < 16 → ahead (inWords h m test) w ≡ pointsIn w r ++ ahead (inWords h m test) v
-ahead-more {w = w} {v = v} s q m test {r} p l = ahead-word p l ∙ ap (λ (k : List ℕ). pointsIn w r ++ k) (ahead-skip (w + 1) v (omega (arith, q .later)) (λ x a b u. visit-gap s m test q x (omega arith) b u))
+pub ahead-more : {k : Walk} (w : ℕ) {t : Step} → Steps k (w + 1) t → (test : ℕ → Bool) {r : ℕ} → WordOf (λ x. visits k x && test x) w r → w < 16 → ahead (λ x. visits k x && test x) w ≡ pointsIn w r ++ ahead (λ x. visits k x && test x) (t .word)
+ahead-more {k} w {t} q test {r} p l = ahead-word p l ∙ ap (λ (m : List ℕ). pointsIn w r ++ m) (ahead-skip (w + 1) (t .word) (q .later) (λ x a b u. visit-gap q test x a b u))
 
-pub ahead-end : {test like : ℕ → Bool} {size : ℕ} (w : ℕ) → Agrees test like size → size ≤ 64 * w → ahead test w ≡ []
+pub ahead-end : (test : ℕ → Bool) (w : ℕ) → 16 ≤ w → ahead test w ≡ []
 unfolding ahead
-ahead-end {test} w a h = those-none test (64 * w) (1024 - 64 * w) (λ x u l. a .past x (omega arith))
+ahead-end test w h = let e : 1024 - 64 * w ≡ 0 = omega arith in rw e
 
-pub below-of : {test like : ℕ → Bool} {size w r : ℕ} → Agrees test like size → WordOf test w r → Below size w r
-below-of a s = record { none = λ x q l. s .bits x q ∙ a .past x l }
-
--- As many as the word has ones.
-bits-count : (d r from : ℕ) → r < 2 ^ d → length (those (λ x. eqb (bit r (x - from)) 1) from d) ≡ ones r
-bits-count zero r from h = omega (arith, ones-le 0 r h)
-bits-count (suc d) r from h = go (eqb (bit r (from - from)) 1) refl (rest ∙ bits-count d (r / 2) (suc from) (half-lt r d h))
-  where
-    rest : length (those (λ x. eqb (bit r (x - from)) 1) (suc from) d) ≡ length (those (λ x. eqb (bit (r / 2) (x - suc from)) 1) (suc from) d)
-    rest = ap length (those-same (λ x. eqb (bit r (x - from)) 1) (λ x. eqb (bit (r / 2) (x - suc from)) 1) (suc from) d (λ x a b. let e : x - from ≡ suc (x - suc from) = omega arith in ap (λ (k : ℕ). eqb (bit r k) 1) e ∙ ap (λ (k : ℕ). eqb k 1) (bit-suc r (x - suc from))))
-
-    last : bit r (from - from) ≡ r % 2
-    last = let e : from - from ≡ 0 = omega arith in ap (bit r) e ∙ bit-zero r
-
-    go : (b : Bool) → eqb (bit r (from - from)) 1 ≡ b → length (those (λ x. eqb (bit r (x - from)) 1) (suc from) d) ≡ ones (r / 2)
-        → length {A = ℕ} (elim b [ true ↦ from ∷ those (λ x. eqb (bit r (x - from)) 1) (suc from) d | false ↦ those (λ x. eqb (bit r (x - from)) 1) (suc from) d ]) ≡ ones r
-    go true e ih = omega (arith, ih, ones-step r, last, eqb-true (bit r (from - from)) 1 e)
-    go false e ih = let ne = eqb-false (bit r (from - from)) 1 e in omega (arith, ih, ones-step r, last, ne)
-
-pub points-count : (w r : ℕ) → r < 2 ^ 64 → length (pointsIn w r) ≡ ones r
-unfolding pointsIn
-points-count w r h = ap length (those-same (λ x. eqb (bit r (x % 64)) 1) (λ x. eqb (bit r (x - 64 * w)) 1) (64 * w) 64 (λ x a b. let e : x % 64 ≡ x - 64 * w = omega arith in ap (λ (k : ℕ). eqb (bit r k) 1) e)) ∙ bits-count 64 r (64 * w) h
+pub below-of : {test like : ℕ → Bool} {size w r : ℕ} → Agrees test like size → w < 16 → WordOf test w r → Below size w r
+below-of a h s = record { none = λ x q l. s .bits x q ∙ a .past x l (omega arith) }
 
 pub points-none : (w : ℕ) → pointsIn w 0 ≡ []
 unfolding pointsIn

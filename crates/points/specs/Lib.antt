@@ -1,4 +1,3 @@
 pub mod PointWord
-pub mod Plane
-pub mod Ready
+pub mod Walk
 pub mod Found

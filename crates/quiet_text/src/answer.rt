@@ -21,8 +21,14 @@ pub enum Output {
     NoRoom,
 }
 
-// The output for a problem.
-fn solve(n: usize, table: &[u8], transitions: &[u16], cover: &mut [u8], out: &mut [u8]) -> usize
+// The output for a problem, with lent room for its products.
+fn solve_with(
+    n: usize,
+    table: &[u8],
+    transitions: &[u16],
+    cover: &mut [u8],
+    out: &mut [u8],
+) -> usize
     requires { ⌜ (mostCover ≤ length (now cover)) × (mostOutput ≤ length (now out)) ⌝ }
     ensures { λ r. ⌜ Solved n (now (table .entry)) (now (transitions .entry)) (now (out .entry)) (now (out .exit)) (some r) ⌝ }
 {
@@ -32,21 +38,24 @@ fn solve(n: usize, table: &[u8], transitions: &[u16], cover: &mut [u8], out: &mu
     }
 }
 
+// The output for a problem.
+fn solve(n: usize, table: &[u8], transitions: &[u16], out: &mut [u8]) -> usize
+    requires { ⌜ mostOutput ≤ length (now out) ⌝ }
+    ensures { λ r. ⌜ Solved n (now (table .entry)) (now (transitions .entry)) (now (out .entry)) (now (out .exit)) (some r) ⌝ }
+{
+    let mut cover = [0u8; MOST_COVER];
+    solve_with(n, table, transitions, &mut cover, out)
+}
+
 // The output for a text, in lent room.
-fn reply_with(
-    text: &[u8],
-    table: &mut [u8],
-    transitions: &mut [u16],
-    cover: &mut [u8],
-    out: &mut [u8],
-) -> usize
-    requires { ⌜ (4096 ≤ length (now table)) × (4096 / 2 ≤ length (now transitions)) × (mostCover ≤ length (now cover)) × (mostOutput ≤ length (now out)) ⌝ }
+fn reply_with(text: &[u8], table: &mut [u8], transitions: &mut [u16], out: &mut [u8]) -> usize
+    requires { ⌜ (4096 ≤ length (now table)) × (4096 / 2 ≤ length (now transitions)) × (mostOutput ≤ length (now out)) ⌝ }
     ensures { λ r. ⌜ Replied (now (text .entry)) (now (out .entry)) (now (out .exit)) (some r) ⌝ }
 {
     let Read::Problem(n, k, t) = read_problem(text, table, transitions) else {
         return put_refusal(refuse(13, 0, 0), out);
     };
-    solve(n, &table[0..k], &transitions[0..t], cover, out)
+    solve(n, &table[0..k], &transitions[0..t], out)
 }
 
 // How many bytes the output for a text has, which stand at the buffer's beginning. The buffer has room for every output.
@@ -56,8 +65,7 @@ pub fn reply(text: &[u8], out: &mut [u8]) -> usize
 {
     let mut table = [0u8; 4096];
     let mut transitions = [0u16; 4096 / 2];
-    let mut cover = [0u8; MOST_COVER];
-    reply_with(text, &mut table, &mut transitions, &mut cover, out)
+    reply_with(text, &mut table, &mut transitions, out)
 }
 
 // The output for a text, in a buffer of any length: the products of a network, or a refusal.

@@ -1,4 +1,4 @@
 pub mod Narrowing
 pub mod Splitting
 pub mod Members
-pub mod Ones
+pub mod Filling

@@ -1,13 +1,14 @@
 -- The lowest member of a word's set.
-use mathlib.Core.Path.{_≡_, ap, _∙_}
+use mathlib.Core.Path.{_≡_, ap}
 use mathlib.Core.Logic.{_≢_}
 use Prim.Native.Nat.{ℕ, _-_, _*_, _/_, _%_, _^_, _≤_, _<_}
-use native.Mathlib.Nat.{one-mul, mod-eq-of-lt, div-eq-of-lt}
+use native.Mathlib.Nat.{div-eq-of-lt}
 use native.Mathlib.Decide.{decLt}
 use native.Mathlib.Omega.{arith}
 use lib.Count.{trailingZeros}
-use lib.Pow.{pow-pos, pow-mono}
+use lib.Pow.{pow-pos}
 use Rattle.hazard.specs.Cube.{bit, flip}
+use Rattle.cube.proofs.Bits.{one-shifted}
 use Rattle.cube.proofs.ByWords.{Lowest, lowest-bit}
 
 module _ (w : ℕ) (small : w < 2 ^ 64) (ne : w ≢ 0) where
@@ -22,7 +23,7 @@ module _ (w : ℕ) (small : w < 2 ^ 64) (ne : w ≢ 0) where
 
   -- The code's 1 << t.
   pub one-at : (1 * 2 ^ trailingZeros 64 w) % 2 ^ 64 ≡ 2 ^ trailingZeros 64 w
-  one-at = ap (λ (y : ℕ). y % 2 ^ 64) (one-mul (2 ^ trailingZeros 64 w)) ∙ mod-eq-of-lt (omega (arith, pow-mono {i = trailingZeros 64 w} {j = 63} (omega (arith, lowest-few))))
+  one-at = one-shifted 64 (trailingZeros 64 w) lowest-few
 
   -- A set bit is part of the number.
   pub one-below : 2 ^ trailingZeros 64 w ≤ w

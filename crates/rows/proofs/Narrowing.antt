@@ -9,11 +9,12 @@ use lib.Bits.{bitAnd}
 use lib.Dec.{eqb, ltb, ltb→lt}
 use lib.ListN.{length, getD}
 use Rattle.hazard.specs.Cube.{bit}
+use Rattle.cube.specs.Mask.{digitAt}
 use Rattle.cube.specs.PointSet.{inSet}
 use Rattle.cube.specs.declared.mask.Cube.{Cube}
 use Rattle.hazard.proofs.Test.{so}
-use Rattle.columns.proofs.Narrowing.{and-test}
-use Rattle.blocks.specs.Blocks.{digitAt, stride, runOf, wordAt, allowed, allowedTo}
+use Rattle.cube.proofs.WordMask.{both-test}
+use Rattle.blocks.specs.Blocks.{stride, runOf, wordAt, allowed, allowedTo}
 
 two : (o a x y : Bool) → ((o && a) && (x && y)) ≡ (o && ((a && x) && y))
 two true true x y = refl
@@ -48,8 +49,8 @@ module _ {columns : List ℕ} {c : Cube} {old new : List ℕ} {i : ℕ} (s : Nar
       → (k : ℕ) → k < 64 * length old → inSet next k ≡ ((inSet old k && allowedTo columns k c i) && (own k i && own k j))
   bits j {at} {also} e f h k a =
       ap (λ (w : ℕ). eqb (bit w (k % 64)) 1) (h (k / 64) (omega (arith, s .long)) ∙ ap₂ (λ (y z : ℕ). bitAnd (getD new (k / 64) 0) (bitAnd (getD columns (y + k / 64) 0) (getD columns (z + k / 64) 0))) e f)
-      ∙ and-test (getD new (k / 64) 0) (bitAnd (wordAt columns i (digitAt c i) (k / 64)) (wordAt columns j (digitAt c j) (k / 64))) (k % 64)
-      ∙ ap₂ _&&_ (s .is k a) (and-test (wordAt columns i (digitAt c i) (k / 64)) (wordAt columns j (digitAt c j) (k / 64)) (k % 64))
+      ∙ both-test (getD new (k / 64) 0) (bitAnd (wordAt columns i (digitAt c i) (k / 64)) (wordAt columns j (digitAt c j) (k / 64))) (k % 64)
+      ∙ ap₂ _&&_ (s .is k a) (both-test (wordAt columns i (digitAt c i) (k / 64)) (wordAt columns j (digitAt c j) (k / 64)) (k % 64))
 
   -- Input i and the next one, or input i twice.
   pub narrowing-step : {j at also : ℕ} (n : ℕ) → j ≡ cond (ltb (i + 1) n) (i + 1) i → at ≡ runOf (stride columns) i (digitAt c i) → also ≡ runOf (stride columns) j (digitAt c j)

@@ -9,8 +9,8 @@ ghost use Rattle.cube.specs.PointSet.{inSet};
 ghost use Rattle.blocks.specs.Blocks.{stride, allowedTo};
 use blocks::word::run_of;
 use blocks::word::stride;
-use columns::query::digit_at;
 use cube::mask::Cube;
+use cube::mask::digit_at;
 
 // Each word of the set, with the words at its place of two runs.
 fn narrow_by(columns: &[u64], at: usize, also: usize, rows: &mut [u64])

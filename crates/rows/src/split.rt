@@ -6,19 +6,8 @@ ghost use lib.ListN.{length, getD};
 ghost use Rattle.blocks.specs.Blocks.{stride, allowedTo};
 ghost use Rattle.rows.specs.Sets.{Split};
 use crate::narrow::narrow;
+use columns::copy::copy_into;
 use cube::mask::Cube;
-
-// A copy of the words.
-fn copy_into(from: &[u64], to: &mut [u64])
-    requires { ⌜ length (now to) ≡ length (now from) ⌝ }
-    ensures { λ _. ⌜ ((b : ℕ) → b < length (now (from .entry)) → getD (now (to .exit)) b 0 ≡ getD (now (from .entry)) b 0) ⌝ }
-{
-    let mut b = 0;
-    while b < from.len() {
-        to[b] = from[b];
-        b += 1;
-    }
-}
 
 // The rows of the other set leave.
 fn remove(set: &mut [u64], other: &[u64])

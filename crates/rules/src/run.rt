@@ -2,29 +2,21 @@
 ghost use mathlib.Core.Path.{_≡_};
 ghost use Rattle.hazard.specs.Search.{firstOf};
 ghost use Rattle.hazard.specs.Refusal.{pointsChecks};
-ghost use Rattle.points.specs.Plane.{Planes};
-ghost use Rattle.kinds.specs.Ready.{Ready};
+ghost use Rattle.context.specs.Context.{tableIn, Planes};
+ghost use Rattle.kinds.specs.Ready.{Listed};
 ghost use Rattle.refusal.specs.Answer.{checkedOf};
 use crate::defined::check_defined;
 use crate::function_hazard::check_rules;
 use refusal::checked::Checked;
 
-// The table under the transitions, by its planes.
-pub fn points_checks(
-    n: usize,
-    table: &[u8],
-    transitions: &[u16],
-    zeros: &[u64],
-    ones: &[u64],
-    twos: &[u64],
-) -> Checked
-    requires { ⌜ Ready n (now table) (now transitions) ⌝ }
-    requires { ⌜ Planes (now table) (now zeros) (now ones) (now twos) ⌝ }
-    ensures { λ r. ⌜ checkedOf r ≡ firstOf (pointsChecks n (now (table .entry)) (now (transitions .entry))) ⌝ }
+// The table under the transitions, by its planes. Where check 6 finds nothing, every end has a value, and check 7 can tell the kinds.
+pub fn points_checks(n: usize, context: &[u64], transitions: &[u16]) -> Checked
+    requires { ⌜ Planes n (now context) × Listed n (now transitions) ⌝ }
+    ensures { λ r. ⌜ checkedOf r ≡ firstOf (pointsChecks n (tableIn n (now (context .entry))) (now (transitions .entry))) ⌝ }
 {
-    let defined = check_defined(n, transitions, twos);
+    let defined = check_defined(n, context, transitions);
     let Checked::Accepted = defined else {
         return defined;
     };
-    check_rules(n, table, transitions, zeros, ones)
+    check_rules(n, context, transitions)
 }

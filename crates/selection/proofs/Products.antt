@@ -18,8 +18,9 @@ use Rattle.hazard.proofs.Expansion.{absorb-is, expand-prime, expand-around}
 use Rattle.cube.specs.declared.mask.Cube as masks
 use Rattle.cube.specs.Mask.{digit, digitsOf, cubeOf, Clean, Stands}
 use Rattle.cube.specs.Entry.{privilegedIn, Packed, cubeIn}
-use Rattle.cube.specs.PointSet.{inSet}
 use Rattle.cube.proofs.Word.{packed-is, packed-clean}
+use Rattle.context.specs.Places.{privilegedWords}
+use Rattle.context.specs.Context.{offIn, privilegedOf}
 use Rattle.expand.specs.declared.growth.Grown as code
 use Rattle.expand.specs.declared.growth.Grown.the-variants as variants
 use Rattle.expand.specs.Answer.{grownOf, LegalClean, Grows}
@@ -41,73 +42,73 @@ masks-digits (suc n) care value = cons (digit-small care value) (masks-digits n 
 pub words-wide : (n : ℕ) (ws : List ℕ) → Wide n (map (privilegedIn n) ws)
 words-wide n ws v m = let (w, u, e) = Memᴰ·of-map (privilegedIn n) ws m in subst (λ (x : Privileged). Digits n (x .cube)) e (masks-digits n _ _)
 
-module _ (n : ℕ) (off privileged : List ℕ) where
+module _ (n : ℕ) (context : List ℕ) where
   abbrev pub vs : List Privileged
-  vs = map (privilegedIn n) privileged
+  vs = privilegedOf n context
 
   pub wide : Wide n vs
-  wide = words-wide n privileged
+  wide = words-wide n (privilegedWords context)
 
   -- The test and its meaning, of masks.
-  dhf→ : (c : masks.Cube) → T (dhfImplicant n (inSet off) vs (cubeOf n c)) → Dhf n (inSet off) vs (cubeOf n c)
-  dhf→ c t = dhf-is n (inSet off) vs wide (masks-digits n (c .care) (c .value)) .0 t
+  dhf→ : (c : masks.Cube) → T (dhfImplicant n (offIn context) vs (cubeOf n c)) → Dhf n (offIn context) vs (cubeOf n c)
+  dhf→ c t = dhf-is n (offIn context) vs wide (masks-digits n (c .care) (c .value)) .0 t
 
-  →dhf : (c : masks.Cube) → Dhf n (inSet off) vs (cubeOf n c) → T (dhfImplicant n (inSet off) vs (cubeOf n c))
-  →dhf c d = dhf-is n (inSet off) vs wide (masks-digits n (c .care) (c .value)) .1 d
+  →dhf : (c : masks.Cube) → Dhf n (offIn context) vs (cubeOf n c) → T (dhfImplicant n (offIn context) vs (cubeOf n c))
+  →dhf c d = dhf-is n (offIn context) vs wide (masks-digits n (c .care) (c .value)) .1 d
 
-  pub over-same : {c : masks.Cube} → Clean n c → Over n off privileged c c
+  pub over-same : {c : masks.Cube} → Clean n c → Over n (offIn context) vs c c
   over-same {c} h = record { fits = h; dhf = λ t. t; around = λ t. →inside (inside-refl (cubeOf n c)) }
 
-  pub over-absorb : (c d : masks.Cube) {r : masks.Cube} → Stands n r (absorb n (inSet off) vs (cubeOf n c) (cubeOf n d)) → Over n off privileged c r
+  pub over-absorb : (c d : masks.Cube) {r : masks.Cube} → Stands n r (absorb n (offIn context) vs (cubeOf n c) (cubeOf n d)) → Over n (offIn context) vs c r
   over-absorb c d {r} s = record { fits = s .fits; dhf = λ t. →dhf r (both t .0); around = λ t. →inside (both t .1) }
     where
-      both : T (dhfImplicant n (inSet off) vs (cubeOf n c)) → Dhf n (inSet off) vs (cubeOf n r) × Inside (cubeOf n c) (cubeOf n r)
-      both t = rw (s .is) (absorb-is n (inSet off) vs wide (dhf→ c t) (masks-digits n (d .care) (d .value)))
+      both : T (dhfImplicant n (offIn context) vs (cubeOf n c)) → Dhf n (offIn context) vs (cubeOf n r) × Inside (cubeOf n c) (cubeOf n r)
+      both t = rw (s .is) (absorb-is n (offIn context) vs wide (dhf→ c t) (masks-digits n (d .care) (d .value)))
 
   -- The cube p is a dhf-implicant around the cube c.
   pub record Stage (c : Cube) (p : masks.Cube) : Type 0 where
     pub fits : Clean n p
-    pub dhf : T (dhfImplicant n (inSet off) vs (cubeOf n p))
+    pub dhf : T (dhfImplicant n (offIn context) vs (cubeOf n p))
     pub around : T (inside c (cubeOf n p))
 
   -- It begins with a cube that growth ended legal with.
-  pub stage-legal : {c : Cube} {g : code.Grown} {d : masks.Cube} {s : ℕ} → Digits n c → Grows n off privileged c g → g ≡ variants.Legal d s → Stage c d
+  pub stage-legal : {c : Cube} {g : code.Grown} {d : masks.Cube} {s : ℕ} → Digits n c → Grows n context c g → g ≡ variants.Legal d s → Stage c d
   stage-legal {c} {g} {d} {s} k h e =
-      let i : Legal (cubeOf n d) s ≡ grow n (inSet off) vs c = sym (ap (grownOf n) e) ∙ h .is in
-      let t = ended (subst (Ends n (inSet off) vs c) (sym i) (grow-ends n (inSet off) vs wide k)) in
+      let i : Legal (cubeOf n d) s ≡ grow n (offIn context) vs c = sym (ap (grownOf n) e) ∙ h .is in
+      let t = ended (subst (Ends n (offIn context) vs c) (sym i) (grow-ends n (offIn context) vs wide k)) in
       record { fits = subst (LegalClean n) e (h .clean); dhf = →dhf d (t .0); around = →inside (t .1) }
     where
-      ended : Ends n (inSet off) vs c (Legal (cubeOf n d) s) → Dhf n (inSet off) vs (cubeOf n d) × Inside c (cubeOf n d)
+      ended : Ends n (offIn context) vs c (Legal (cubeOf n d) s) → Dhf n (offIn context) vs (cubeOf n d) × Inside c (cubeOf n d)
       ended (legal a b m) = (a, b)
 
-  pub stage-start : {c : masks.Cube} → Clean n c → T (dhfImplicant n (inSet off) vs (cubeOf n c)) → Stage (cubeOf n c) c
+  pub stage-start : {c : masks.Cube} → Clean n c → T (dhfImplicant n (offIn context) vs (cubeOf n c)) → Stage (cubeOf n c) c
   stage-start {c} h t = record { fits = h; dhf = t; around = →inside (inside-refl (cubeOf n c)) }
 
-  pub stage-step : {c : Cube} {p r : masks.Cube} → Stage c p → Over n off privileged p r → Stage c r
+  pub stage-step : {c : Cube} {p r : masks.Cube} → Stage c p → Over n (offIn context) vs p r → Stage c r
   stage-step {c} {p} {r} s o =
       record { fits = o .fits; dhf = o .dhf (s .dhf); around = →inside (inside-trans (inside→ c (cubeOf n p) (s .around)) (inside→ (cubeOf n p) (cubeOf n r) (o .around (s .dhf)))) }
 
-  pub stage-end : {c : Cube} {p r : masks.Cube} → Stage c p → Stands n r (expand n (inSet off) vs (cubeOf n p)) → PrimeOver n off privileged c r
+  pub stage-end : {c : Cube} {p r : masks.Cube} → Stage c p → Stands n r (expand n (offIn context) vs (cubeOf n p)) → PrimeOver n (offIn context) vs c r
   stage-end {c} {p} {r} s t =
       let d = dhf→ p (s .dhf) in
       record {
         fits = t .fits;
-        prime = prime-is n (inSet off) vs wide (cubeOf n r) .1 (rw (t .is) (expand-prime n (inSet off) vs wide d));
-        around = →inside (inside-trans (inside→ c (cubeOf n p) (s .around)) (rw (t .is) (expand-around n (inSet off) vs wide d)));
+        prime = prime-is n (offIn context) vs wide (cubeOf n r) .1 (rw (t .is) (expand-prime n (offIn context) vs wide d));
+        around = →inside (inside-trans (inside→ c (cubeOf n p) (s .around)) (rw (t .is) (expand-around n (offIn context) vs wide d)));
       }
 
   -- A dhf-prime around a stage is one around the stage's cube.
-  pub stage-prime : {c : Cube} {p r : masks.Cube} → Stage c p → PrimeOver n off privileged (cubeOf n p) r → PrimeOver n off privileged c r
+  pub stage-prime : {c : Cube} {p r : masks.Cube} → Stage c p → PrimeOver n (offIn context) vs (cubeOf n p) r → PrimeOver n (offIn context) vs c r
   stage-prime {c} {p} {r} s h =
       record { fits = h .fits; prime = h .prime; around = →inside (inside-trans (inside→ c (cubeOf n p) (s .around)) (inside→ (cubeOf n p) (cubeOf n r) (h .around))) }
 
   -- The product packed into a word.
-  pub product-word : (v : ℕ) {w t : ℕ} {r : masks.Cube} → PrimeOver n off privileged (cubeIn n v) r → Packed w t 0 (r .care) (r .value) → PrimeWord n off privileged w × T (inside (cubeIn n v) (cubeIn n w))
+  pub product-word : (v : ℕ) {w t : ℕ} {r : masks.Cube} → PrimeOver n (offIn context) vs (cubeIn n v) r → Packed w t 0 (r .care) (r .value) → PrimeWord n (offIn context) vs w × T (inside (cubeIn n v) (cubeIn n w))
   product-word v {w} {r} h p =
       let s : Stands n r (cubeOf n r) = record { fits = h .fits; is = refl } in
       let e : cubeIn n w ≡ cubeOf n r = packed-is p s in
       (record { prime = rw e (h .prime); clean = packed-clean p s (pow-pos n) }, rw e (h .around))
 
   -- And the word's cube is the product's.
-  pub product-cube : {c : Cube} {w t : ℕ} {r : masks.Cube} → PrimeOver n off privileged c r → Packed w t 0 (r .care) (r .value) → cubeIn n w ≡ cubeOf n r
+  pub product-cube : {c : Cube} {w t : ℕ} {r : masks.Cube} → PrimeOver n (offIn context) vs c r → Packed w t 0 (r .care) (r .value) → cubeIn n w ≡ cubeOf n r
   product-cube {r = r} h p = packed-is p (record { fits = h .fits; is = refl })

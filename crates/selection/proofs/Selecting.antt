@@ -1,24 +1,27 @@
--- The network that is written is what the choice kept.
+-- The words that are selected are those that the choice kept.
 use mathlib.Core.Path.{_≡_, sym, ap, _∙_, subst}
+use mathlib.Core.Bool.{Bool}
 use mathlib.Core.List.{List, _++_, map, List·Memᴰ, Memᴰ·of-map}
-use Prim.Native.Nat.{ℕ, _+_, _*_, _-_, _≤_}
-use native.Mathlib.Nat.{sub-zero, le-refl, le-trans, mul-le-mul-right}
+use mathlib.Core.Option.{none}
+use Prim.Native.Nat.{ℕ, _+_, _-_, _<_}
+use native.Mathlib.Nat.{sub-zero}
+use native.Mathlib.Decide.{decLt}
 use native.Mathlib.Omega.{arith}
-use lib.ListN.{length, take, drop, length-drop, length-append, length-map}
+use lib.ListN.{length, getD, take, drop, length-drop, length-append, length-map, List·getD-eq-default}
 use lib.Seq.{drop-append-le, take-at, getD-take, getD-drop, length-take-le}
 use Rattle.hazard.specs.Cube.{Cube}
+use Rattle.hazard.specs.Sets.{Privileged}
 use Rattle.hazard.specs.Implicant.{DhfPrime}
-use Rattle.hazard.specs.Minimal.{bytesOf}
-use Rattle.cube.specs.Entry.{requiredIn, privilegedIn, cubeIn, networkIn}
-use Rattle.cube.specs.PointSet.{inSet}
+use Rattle.cube.specs.Entry.{requiredIn, CleanWord, cubeIn, networkIn}
+use Rattle.cube.proofs.Word.{zero-clean}
 use Rattle.choice.specs.Keep.{Kept}
 use Rattle.choice.proofs.Keeping.{index-of}
-use Rattle.selection.specs.Choose.{Chosen}
-use Rattle.selection.specs.Select.{Selected}
+use Rattle.selection.specs.Choose.{blockingOf, PrimeWord, Chosen}
+use Rattle.selection.specs.Select.{KeptWords, KeptFrom}
 
-module _ {n : ℕ} {off privileged required firsts products : List ℕ} {m : ℕ} (chosen : Chosen n off privileged required firsts products m) where
-  pub chosen-few : m ≤ length required
-  chosen-few = omega (arith, chosen .noted .few, length-take-le m products (chosen .low))
+module _ {n : ℕ} {off : ℕ → Bool} {vs : List Privileged} {required firsts products : List ℕ} {m : ℕ} (chosen : Chosen n off vs required firsts products m) where
+  taken : length (take m products) ≡ m
+  taken = length-take-le m products (chosen .low)
 
   -- The part of the products from 0 to m is handed on.
   module _ {after : List ℕ} {r : ℕ} (part : Kept n required (take (m - 0) products) after r) where
@@ -26,45 +29,42 @@ module _ {n : ℕ} {off privileged required firsts products : List ℕ} {m : ℕ
     kept = subst (λ (z : ℕ). Kept n required (take z products) after r) (sub-zero m) part
 
     size : length after ≡ m
-    size = kept .long ∙ length-take-le m products (chosen .low)
-
-    pub kept-low : r ≤ m
-    kept-low = omega (arith, kept .low, size)
-
-    pub kept-whole : (rest : List ℕ) → m ≤ length (after ++ rest)
-    kept-whole rest = omega (arith, length-append after rest, size)
+    size = kept .long ∙ taken
 
     -- The kept products are read back from the whole array.
     kept-part : (rest : List ℕ) → take (m - r) (drop r (after ++ rest)) ≡ drop r after
     kept-part rest = rw (drop-append-le r after rest (kept .low)) (take-at (drop r after) rest (m - r) (omega (arith, length-drop r after, size)))
 
-    kept-prime : (p : Cube) → List·Memᴰ p (networkIn n (drop r after)) → DhfPrime n (inSet off) (map (privilegedIn n) privileged) p
+    kept-word : (i : ℕ) → i < length (drop r after) → PrimeWord n off vs (getD (drop r after) i 0)
+    kept-word i l =
+        let (k, h, f) = index-of (kept .same (r + i) (omega (arith, l, length-drop r after))) in
+        let b : k < m = omega (arith, h, taken) in
+        subst (PrimeWord n off vs) (sym (getD-take m products k 0 b) ∙ f ∙ sym (getD-drop r after i 0)) (chosen .good k b)
+
+    kept-prime : (p : Cube) → List·Memᴰ p (networkIn n (drop r after)) → DhfPrime n off vs p
     kept-prime p u =
         let (w, v, e) = Memᴰ·of-map (cubeIn n) (drop r after) u in
         let (i, l, g) = index-of v in
-        let (k, h, f) = index-of (kept .same (r + i) (omega (arith, l, length-drop r after))) in
-        subst (DhfPrime n (inSet off) (map (privilegedIn n) privileged)) (ap (cubeIn n) (sym (getD-take m products k 0 (omega (arith, h, length-take-le m products (chosen .low)))) ∙ f ∙ sym (getD-drop r after i 0) ∙ g) ∙ e)
-        (chosen .good k (omega (arith, h, length-take-le m products (chosen .low))) .prime)
+        subst (DhfPrime n off vs) (ap (cubeIn n) g ∙ e) (kept-word i l .prime)
 
-    kept-length : (rest : List ℕ) → length (take (m - r) (drop r (after ++ rest))) ≡ m - r
-    kept-length rest = rw (kept-part rest) (omega (arith, length-drop r after, size))
+    kept-clean : (k : ℕ) → CleanWord n (getD (drop r after) k 0)
+    kept-clean k = elim (decLt k (length (drop r after))) [ yes l ↦ kept-word k l .clean | no l ↦ rw (List·getD-eq-default (drop r after) 0 {n = k} (omega (arith, l))) (zero-clean n) ]
 
-    pub kept-few : (rest : List ℕ) {b : ℕ} → length required ≤ b → length (take (m - r) (drop r (after ++ rest))) ≤ b
-    kept-few rest l = omega (arith, kept-length rest, chosen-few, l)
-
-    pub kept-room : (rest : List ℕ) {b : ℕ} → length required * n ≤ b → length (take (m - r) (drop r (after ++ rest))) * n ≤ b
-    kept-room rest l = le-trans (mul-le-mul-right n (kept-few rest (le-refl (length required)))) l
-
-    pub selected : (rest before written : List ℕ) (s : ℕ)
-        → written ≡ bytesOf (networkIn n (take (m - r) (drop r (after ++ rest)))) ++ drop (length (take (m - r) (drop r (after ++ rest))) * n) before
-        → s ≡ m - r → Selected n (inSet off) (map (privilegedIn n) privileged) (map (requiredIn n) required) before written s
-    selected rest before written s is e =
+    kept-words : KeptWords n off vs (map (requiredIn n) required) (drop r after)
+    kept-words =
         record {
-          net = networkIn n (drop r after);
-          size = e ∙ omega (arith, length-drop r after, size, length-map (drop r after) (cubeIn n));
-          is = is ∙ rw (kept-part rest, length-map (drop r after) (cubeIn n));
+          clean = kept-clean;
           primes = kept-prime;
           covers = kept .covers;
           own = kept .own;
-          few = omega (arith, length-drop r after, size, length-map (drop r after) (cubeIn n), length-map required (requiredIn n), chosen-few);
+          few = omega (arith, length-drop r after, size, length-map required (requiredIn n), chosen .noted .few, taken);
+        }
+
+    pub kept-from : blockingOf n off vs (map (requiredIn n) required) ≡ none → (rest : List ℕ) → KeptFrom n off vs (map (requiredIn n) required) (after ++ rest) r m
+    kept-from e rest =
+        record {
+          free = e;
+          low = omega (arith, kept .low, size);
+          high = omega (arith, length-append after rest, size);
+          kept = rw (kept-part rest) kept-words;
         }

@@ -2,8 +2,8 @@
 ghost use Prim.Native.Nat.{_≤_, _<_};
 ghost use Rattle.blocks.specs.Blocks.{stride};
 use blocks::word::word_at;
-use columns::query::digit_at;
 use cube::mask::Cube;
+use cube::mask::digit_at;
 
 // The rows of block b with a literal of input i that the supercube with the cube loses.
 fn losing(columns: &[u64], b: usize, c: Cube, i: usize) -> u64

@@ -1,64 +1,60 @@
-// From the stored sets to the written network.
-ghost use mathlib.Core.Path.{_≡_};
+// From a context and its required cubes to the words of a network.
 ghost use mathlib.Core.List.{map};
 ghost use Prim.Native.Nat.{ℕ, _*_, _≤_};
 ghost use lib.ListN.{length, getD};
 ghost use Rattle.hazard.specs.Limits.{mostRequired};
-ghost use Rattle.cube.specs.Entry.{requiredIn, privilegedIn, CleanWord};
-ghost use Rattle.cube.specs.PointSet.{inSet};
-ghost use Rattle.points.specs.Ready.{Ready};
-ghost use Rattle.legality.specs.Columns.{Columns};
-ghost use Rattle.rows.specs.Sets.{Fits};
-ghost use Rattle.choice.specs.Rows.{Inside};
-ghost use Rattle.selection.specs.Answer.{minimisedOf, Answered};
+ghost use Rattle.cube.specs.Entry.{requiredIn, CleanWord};
+ghost use Rattle.context.specs.Context.{offIn, privilegedOf};
+ghost use Rattle.legality.specs.Ready.{Ready};
+ghost use Rattle.blocks.specs.Blocks.{stride};
+ghost use Rattle.selection.specs.Select.{Selects};
 use crate::choose::choose;
 use crate::minimised::Minimised;
-use crate::write::write_network;
+use blocks::fill::blocks_into;
 use choice::keep::irredundant_from;
+use columns::relation::Relation;
+use refusal::refusal::Refusal;
 
-// Products are chosen forwards, those that can be dropped are dropped backwards, and the others are written; or a required cube blocks.
+// The places from which and to which the words of the network stand, or the refusal of the first required cube that blocks.
+pub enum Selected {
+    Words(usize, usize),
+    Refused(Refusal),
+}
+
+// Products are chosen forwards, and those that can be dropped are dropped backwards; or a required cube blocks. `columns` is room for the
+// columns of the required cubes, `firsts` for the place of each one's first product.
 pub fn select(
     n: usize,
-    off: &[u64],
-    privileged: &[u64],
-    legal: &[u64],
+    context: &[u64],
     required: &[u64],
-    columns: &[u64],
-    uncovered: &mut [u64],
-    taken: &mut [u64],
+    columns: &mut [u64],
     firsts: &mut [u16],
     products: &mut [u64],
-    cover: &mut [u8],
-) -> Minimised
-    requires { ⌜ Ready n (now off) × Columns n (now privileged) (now legal) × (length (now required) ≤ mostRequired) × (length (now firsts) ≡ length (now required)) × (length (now required) ≤ length (now products)) × (length (now required) * n ≤ length (now cover)) ⌝ }
-    requires { ⌜ Inside n (now required) (now columns) × Fits (now columns) (now uncovered) × (length (now required) ≤ 64 * length (now uncovered)) × (length (now taken) ≡ length (now uncovered)) ⌝ }
+) -> Selected
+    requires { ⌜ Ready n (now context) × (length (now required) ≤ mostRequired) × (length (now required) ≤ 64 * stride (now columns)) × (length (now required) ≤ length (now firsts)) × (length (now required) ≤ length (now products)) ⌝ }
     requires { ⌜ ((k : ℕ) → CleanWord n (getD (now required) k 0)) ⌝ }
-    ensures { λ r. ⌜ Answered n (inSet (now (off .entry))) (map (privilegedIn n) (now (privileged .entry))) (map (requiredIn n) (now (required .entry))) (now (cover .entry)) (now (cover .exit)) (minimisedOf r) ⌝ }
+    ensures { λ r. ⌜ Selects n (offIn (now (context .entry))) (privilegedOf n (now (context .entry))) (map (requiredIn n) (now (required .entry))) (now (products .exit)) r ⌝ }
 {
-    let chosen = choose(
+    let count = required.len();
+    blocks_into(Relation::Inside, n, required, columns);
+    match choose(
         n,
-        off,
-        privileged,
-        legal,
+        context,
         required,
         columns,
-        uncovered,
-        taken,
-        firsts,
+        &mut firsts[0..count],
         products,
-    );
-    let Minimised::Products(m) = chosen else {
-        return chosen;
-    };
-    let kept = irredundant_from(
-        n,
-        required,
-        columns,
-        firsts,
-        &mut products[0..m],
-        uncovered,
-        taken,
-    );
-    write_network(n, &products[kept..m], cover);
-    Minimised::Products(m - kept)
+    ) {
+        Minimised::Refused(q) => Selected::Refused(q),
+        Minimised::Products(m) => {
+            let from = irredundant_from(
+                n,
+                required,
+                columns,
+                &firsts[0..count],
+                &mut products[0..m],
+            );
+            Selected::Words(from, m)
+        }
+    }
 }

@@ -1,3 +1,3 @@
 pub mod Word
+pub mod Makers
 pub mod Gather
-pub mod Parts

@@ -1,4 +1,4 @@
-// The sets made from a table and transitions that the input rules let through.
+// The sets made from the planes and transitions that the input rules let through.
 pub mod privileged;
 pub mod required;
-pub mod sets;
+pub mod store;

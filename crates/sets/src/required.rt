@@ -1,135 +1,116 @@
-// The required cubes: counted, and stored as words, in order of transition, then of label.
+// The required cubes, by their three makers: those of a dynamic transition, that of a static one, and single points of a set.
 ghost use mathlib.Core.Path.{_≡_};
-ghost use mathlib.Core.List.{[], _∷_, map};
-ghost use Prim.Native.Nat.{_+_, _≤_, _<_, _^_};
+ghost use mathlib.Core.List.{[], _∷_, _++_, map};
+ghost use Prim.Native.Nat.{_+_, _^_, _≤_, _<_};
 ghost use lib.ListN.{length};
 ghost use Rattle.hazard.specs.Search.{those};
+ghost use Rattle.hazard.specs.Transition.{count, Kind};
 ghost use Rattle.hazard.specs.Sets.{maximalLabel, required};
 ghost use Rattle.cube.specs.Entry.{requiredIn};
-ghost use Rattle.points.specs.PointWord.{pointsIn, Below};
-ghost use Rattle.points.specs.Plane.{Plane};
+ghost use Rattle.cube.specs.PointSet.{inSet};
+ghost use Rattle.context.specs.Context.{tableIn, Planes};
+ghost use Rattle.kinds.specs.Codes.{kindIs};
 ghost use Rattle.kinds.specs.Ready.{Ready};
-ghost use Rattle.sets.specs.Store.{Stored, Held, requiredTo, requiredFor};
-use cube::entry::pack;
+ghost use Rattle.sets.specs.Store.{Stored, Held, requiredTo, requiredBy, singlePoints};
+use crate::store::Corner;
+use crate::store::store;
+use crate::store::word_into;
+use context::places::ones;
+use cube::mask::Cube;
 use cube::mask::span_of;
-use cube::point::next;
-use cube::word_mask::low_mask;
-use cube::word_mask::word_cube;
 use kinds::kind::Kind;
 use kinds::kind::kind_of;
-use kinds::label::count_labels;
 use kinds::transition::end_of;
 use kinds::transition::start_of;
 use moves::turn::last_points;
+use points::walk::first_step;
+use points::walk::next_step;
+use points::walk::walk_over;
+use points::word::set_points;
 
-// How many required cubes there are, by the points of value 1.
-pub fn count_by(n: usize, table: &[u8], transitions: &[u16], ones: &[u64]) -> usize
-    requires { ⌜ Ready n (now table) (now transitions) ⌝ }
-    requires { ⌜ Plane (now table) 1 (now ones) ⌝ }
-    ensures { λ r. ⌜ r ≡ length (required n (now (table .entry)) (now (transitions .entry))) ⌝ }
-{
-    let count = transitions.len() / 2;
-    let mut total = 0;
-    let mut t = 0;
-    while t < count {
-        let a = start_of(transitions, t);
-        let b = end_of(transitions, t);
-        total += count_labels(n, table, ones, kind_of(table, a, b), a, b);
-        t += 1;
-    }
-    total
-}
-
-// The required cube of transition t between s and the label x, stored at a place; the next place.
-fn store(n: usize, t: u16, s: u16, x: u16, out: &mut [u64], at: usize) -> usize
-    requires { ⌜ (n ≤ 10) × (s < 2 ^ n) × (x < 2 ^ n) × (at < length (now out)) ⌝ }
-    ensures { λ r. ⌜ Stored n (requiredIn n) (now (out .entry)) (now (out .exit)) at r (requiredTo n t s x ∷ []) ⌝ }
-{
-    out[at] = pack(t, x, span_of(n, s, x));
-    at + 1
-}
-
-// The required cubes between s and the points of word w that are bits of `labels`.
-fn word_into(n: usize, t: u16, s: u16, w: usize, labels: u64, out: &mut [u64], at: usize) -> usize
-    requires { ⌜ (n ≤ 10) × (s < 2 ^ n) × (w < 16) × Below (2 ^ n) w labels ⌝ }
-    requires { ⌜ at + length (pointsIn w labels) ≤ length (now out) ⌝ }
-    ensures { λ r. ⌜ Stored n (requiredIn n) (now (out .entry)) (now (out .exit)) at r (map (requiredTo n t s) (pointsIn w labels)) ⌝ }
-{
-    let mut left = labels;
-    let mut k = at;
-    while left != 0 {
-        let b = u64::trailing_zeros(left) as usize;
-        k = store(n, t, s, (64 * w + b) as u16, out, k);
-        left = left ^ (1u64 << b);
-    }
-    k
-}
-
-// The required cubes between s and the labels of [S,E], in order of label.
-fn labels_into(
+// Those of a dynamic transition t, between its start point s and the labels of [S,E], in order of label.
+fn dynamic_into(
     n: usize,
-    table: &[u8],
-    ones: &[u64],
+    context: &[u64],
     t: u16,
     s: u16,
     e: u16,
     out: &mut [u64],
     at: usize,
 ) -> usize
-    requires { ⌜ (n ≤ 10) × (length (now table) ≡ 2 ^ n) × (s < 2 ^ n) × (e < 2 ^ n) × Plane (now table) 1 (now ones) ⌝ }
-    requires { ⌜ at + length (those (maximalLabel n (now table) s e) 0 (2 ^ n)) ≤ length (now out) ⌝ }
-    ensures { λ r. ⌜ Stored n (requiredIn n) (now (out .entry)) (now (out .exit)) at r (map (requiredTo n t s) (those (maximalLabel n (now (table .entry)) s e) 0 (2 ^ n))) ⌝ }
+    requires { ⌜ Planes n (now context) × (s < 2 ^ n) × (e < 2 ^ n) ⌝ }
+    requires { ⌜ at + length (those (maximalLabel n (tableIn n (now context)) s e) 0 (2 ^ n)) ≤ 2 ^ 32 ⌝ }
+    ensures { λ r. ⌜ Stored n (requiredIn n) (now (out .entry)) (now (out .exit)) at r (map (requiredTo n t s) (those (maximalLabel n (tableIn n (now (context .entry))) s e) 0 (2 ^ n))) ⌝ }
 {
-    let c = span_of(n, s, e);
-    let m = low_mask(c);
-    let h = word_cube(c);
-    let words = (table.len() + 63) / 64;
+    let walk = walk_over(n, span_of(n, s, e));
     let mut k = at;
-    let mut w = h.value as usize;
-    while w < words {
-        let labels = last_points(n, ones, s, e, w, m);
-        k = word_into(n, t, s, w, labels, out, k);
-        w = next(4, h, w);
+    let mut step = first_step(walk);
+    while step.word < 16 {
+        let labels = last_points(n, ones(context), s, e, step);
+        k = word_into(n, t, Corner::At(s), step.word, labels, out, k);
+        step = next_step(walk, step);
     }
     k
 }
 
-// The required cubes of transition t from a to b.
+// That of a static transition t from 1 to 1: [A,B], with the label b.
+fn static_into(n: usize, t: u16, a: u16, b: u16, out: &mut [u64], at: usize) -> usize
+    requires { ⌜ (n ≤ 10) × (a < 2 ^ n) × (b < 2 ^ n) × (at < 2 ^ 32) ⌝ }
+    ensures { λ r. ⌜ Stored n (requiredIn n) (now (out .entry)) (now (out .exit)) at r (requiredTo n t a b ∷ []) ⌝ }
+{
+    store(n, t, a, b, out, at)
+}
+
+// The points of a set, each a required cube of its own, in ascending order, with t for their transition.
+fn points_into(n: usize, t: u16, set: &[u64], out: &mut [u64], at: usize) -> usize
+    requires { ⌜ (n ≤ 10) × (length (now set) ≡ 16) × (at + 1024 ≤ 2 ^ 32) ⌝ }
+    ensures { λ r. ⌜ Stored n (requiredIn n) (now (out .entry)) (now (out .exit)) at r (singlePoints n t (inSet (now (set .entry)))) ⌝ }
+{
+    let walk = walk_over(n, Cube { care: 0, value: 0 });
+    let mut k = at;
+    let mut step = first_step(walk);
+    while step.word < 16 {
+        let points = set_points(set, step);
+        k = word_into(n, t, Corner::Label, step.word, points, out, k);
+        step = next_step(walk, step);
+    }
+    k
+}
+
+// Those of transition t from a to b, by its kind.
 fn transition_into(
     n: usize,
-    table: &[u8],
-    ones: &[u64],
+    context: &[u64],
+    k: Kind,
     t: u16,
     a: u16,
     b: u16,
     out: &mut [u64],
     at: usize,
 ) -> usize
-    requires { ⌜ (n ≤ 10) × (length (now table) ≡ 2 ^ n) × (a < 2 ^ n) × (b < 2 ^ n) × Plane (now table) 1 (now ones) ⌝ }
-    requires { ⌜ at + length (requiredFor n (now table) t a b) ≤ length (now out) ⌝ }
-    ensures { λ r. ⌜ Stored n (requiredIn n) (now (out .entry)) (now (out .exit)) at r (requiredFor n (now (table .entry)) t a b) ⌝ }
+    requires { ⌜ Planes n (now context) × (a < 2 ^ n) × (b < 2 ^ n) ⌝ }
+    requires { ⌜ at + length (requiredBy n (tableIn n (now context)) (kindIs k) t a b) ≤ 2 ^ 32 ⌝ }
+    ensures { λ r. ⌜ Stored n (requiredIn n) (now (out .entry)) (now (out .exit)) at r (requiredBy n (tableIn n (now (context .entry))) (kindIs k) t a b) ⌝ }
 {
-    let k = kind_of(table, a, b);
     match k {
         Kind::Low => at,
-        Kind::Rise => labels_into(n, table, ones, t, b, a, out, at),
-        Kind::Fall => labels_into(n, table, ones, t, a, b, out, at),
-        Kind::High => store(n, t, a, b, out, at),
+        Kind::Rise => dynamic_into(n, context, t, b, a, out, at),
+        Kind::Fall => dynamic_into(n, context, t, a, b, out, at),
+        Kind::High => static_into(n, t, a, b, out, at),
     }
 }
 
-// The required cubes, by the points of value 1; how many.
-pub fn required_by(
+// The required cubes, in order of transition and label, and after them the points of the set that is handed in; how many. As many are
+// stored as there is room for.
+pub fn required_into(
     n: usize,
-    table: &[u8],
+    context: &[u64],
     transitions: &[u16],
-    ones: &[u64],
+    singles: &[u64],
     out: &mut [u64],
 ) -> usize
-    requires { ⌜ Ready n (now table) (now transitions) ⌝ }
-    requires { ⌜ Plane (now table) 1 (now ones) ⌝ }
-    requires { ⌜ length (required n (now table) (now transitions)) ≤ length (now out) ⌝ }
-    ensures { λ r. ⌜ Held n (requiredIn n) (now (out .entry)) (now (out .exit)) r (required n (now (table .entry)) (now (transitions .entry))) ⌝ }
+    requires { ⌜ Ready n (now context) (now transitions) × (length (now singles) ≡ 16) ⌝ }
+    ensures { λ r. ⌜ Held n (requiredIn n) (now (out .entry)) (now (out .exit)) r (required n (tableIn n (now (context .entry))) (now (transitions .entry)) ++ singlePoints n (count (now (transitions .entry))) (inSet (now (singles .entry)))) ⌝ }
 {
     let count = transitions.len() / 2;
     let mut k = 0;
@@ -137,8 +118,8 @@ pub fn required_by(
     while t < count {
         let a = start_of(transitions, t);
         let b = end_of(transitions, t);
-        k = transition_into(n, table, ones, t as u16, a, b, out, k);
+        k = transition_into(n, context, kind_of(context, a, b), t as u16, a, b, out, k);
         t += 1;
     }
-    k
+    points_into(n, count as u16, singles, out, k)
 }

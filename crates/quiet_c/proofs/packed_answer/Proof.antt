@@ -9,16 +9,10 @@ use Rattle.quiet_c.proofs.Exact.{written-exact, declined-exact}
 use Rattle.quiet_c.proofs.packed_answer.Statement.{statement}
 use Rattle.quiet_c.proofs.packed_answer.Tie as tie
 
-enum-known-m : tie.Need-enum-known-m
-enum-known-m c = search needs
-
 mul-result : tie.Need-mul-result
 mul-result c =
     let h : c .before .m .given .0 .0 < 65536 = subst (λ (m : Minimised). AnswerFits (minimisedOf m)) (c .before .m .given .1) (c .before .before .before .pre) in
     search needs
-
-enum-known-m-2 : tie.Need-enum-known-m-2
-enum-known-m-2 c = search needs
 
 packed-refusal-requires : tie.Need-packed-refusal-requires
 packed-refusal-requires c κs = subst (λ (m : Minimised). AnswerFits (minimisedOf m)) (c .before .m2 .given .1) (c .before .before .before .pre)
@@ -34,6 +28,4 @@ returns-2 c =
     declined-exact (c .packed-refusal .result) (h .number-low) (c .packed-refusal .ensures) ∙ sym (ap minimisedOf (g .1))
 
 pub packed-answer-spec : {M : Type 1} → statement M
-packed-answer-spec =
-    tie.close
-    (tie.spec enum-known-m mul-result enum-known-m-2 packed-refusal-requires returns returns-2)
+packed-answer-spec = tie.close (tie.spec (λ c. search needs) mul-result (λ c. search needs) packed-refusal-requires returns returns-2)

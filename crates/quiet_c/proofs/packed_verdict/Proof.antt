@@ -7,40 +7,10 @@ use Rattle.conditions.specs.declared.fault.Verdict.{Verdict}
 use Rattle.quiet_c.proofs.packed_verdict.Statement.{statement}
 use Rattle.quiet_c.proofs.packed_verdict.Tie as tie
 
-enum-known-v : tie.Need-enum-known-v
-enum-known-v c = search needs
-
 cast-packed : tie.Need-cast-packed
 cast-packed c =
     let h : c .before .before .v .given .0 .0 .number < 256 = subst (λ (v : Verdict). fieldsOf (verdictOf v) .refusal < 256) (c .before .before .v .given .1) (c .before .before .before .before .pre) in
     search needs
-
-packed-requires : tie.Need-packed-requires
-packed-requires c κs = search needs
-
-enum-told : tie.Need-enum-told
-enum-told c = search needs
-
-packed-requires-2 : tie.Need-packed-requires-2
-packed-requires-2 c κs = search needs
-
-enum-known-v-2 : tie.Need-enum-known-v-2
-enum-known-v-2 c = search needs
-
-packed-requires-3 : tie.Need-packed-requires-3
-packed-requires-3 c κs = search needs
-
-enum-known-v-3 : tie.Need-enum-known-v-3
-enum-known-v-3 c = search needs
-
-packed-requires-4 : tie.Need-packed-requires-4
-packed-requires-4 c κs = search needs
-
-enum-known-v-4 : tie.Need-enum-known-v-4
-enum-known-v-4 c = search needs
-
-packed-requires-5 : tie.Need-packed-requires-5
-packed-requires-5 c κs = search needs
 
 returns : tie.Need-returns
 returns c = c .packed .ensures ∙ sym (ap (λ (v : Verdict). fieldsOf (verdictOf v)) (c .before .before .before .v .given .1))
@@ -58,22 +28,4 @@ returns-5 : tie.Need-returns-5
 returns-5 c = c .packed5 .ensures ∙ sym (ap (λ (v : Verdict). fieldsOf (verdictOf v)) (c .before .before .v4 .given .1))
 
 pub packed-verdict-spec : {M : Type 1} → statement M
-packed-verdict-spec =
-    tie.close
-    (tie.spec
-    enum-known-v
-    cast-packed
-    packed-requires
-    enum-told
-    packed-requires-2
-    enum-known-v-2
-    packed-requires-3
-    enum-known-v-3
-    packed-requires-4
-    enum-known-v-4
-    packed-requires-5
-    returns
-    returns-2
-    returns-3
-    returns-4
-    returns-5)
+packed-verdict-spec = tie.close (tie.spec (λ c. search needs) cast-packed (λ c κs. search needs) (λ c. search needs) (λ c κs. search needs) (λ c. search needs) (λ c κs. search needs) (λ c. search needs) (λ c κs. search needs) (λ c. search needs) (λ c κs. search needs) returns returns-2 returns-3 returns-4 returns-5)

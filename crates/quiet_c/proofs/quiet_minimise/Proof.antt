@@ -6,14 +6,8 @@ use Rattle.quiet_c.proofs.Exact.{promise-fits}
 use Rattle.quiet_c.proofs.quiet_minimise.Statement.{statement}
 use Rattle.quiet_c.proofs.quiet_minimise.Tie as tie
 
-minimise-requires : tie.Need-minimise-requires
-minimise-requires c κs = search needs
-
 packed-answer-requires : tie.Need-packed-answer-requires
 packed-answer-requires c κs = promise-fits (c .before .before .minimise .ensures)
-
-same-length : tie.Need-same-length
-same-length c = search needs
 
 returns : tie.Need-returns
 returns c =
@@ -22,5 +16,4 @@ returns c =
     subst⁻¹ (Promise (a .n) (now (a .table)) (now (a .transitions)) (now (a .cover)) (m .last .1 .1 .1 .0)) (c .packed-answer .ensures) (m .ensures)
 
 pub quiet-minimise-spec : {M : Type 1} → statement M
-quiet-minimise-spec =
-    tie.close (tie.spec minimise-requires packed-answer-requires same-length returns)
+quiet-minimise-spec = tie.close (tie.spec (λ c κs. search needs) packed-answer-requires (λ c. search needs) returns)

@@ -4,9 +4,6 @@ use Rattle.quiet_c.proofs.Exact.{verified-fits}
 use Rattle.quiet_c.proofs.quiet_verify.Statement.{statement}
 use Rattle.quiet_c.proofs.quiet_verify.Tie as tie
 
-verify-requires : tie.Need-verify-requires
-verify-requires c κs = search needs
-
 packed-verdict-requires : tie.Need-packed-verdict-requires
 packed-verdict-requires c κs = verified-fits (c .verify .ensures)
 
@@ -16,4 +13,4 @@ returns c =
     record { verdict = verdictOf (v .result); verified = v .ensures; is = c .packed-verdict .ensures }
 
 pub quiet-verify-spec : {M : Type 1} → statement M
-quiet-verify-spec = tie.close (tie.spec verify-requires packed-verdict-requires returns)
+quiet-verify-spec = tie.close (tie.spec (λ c κs. search needs) packed-verdict-requires returns)

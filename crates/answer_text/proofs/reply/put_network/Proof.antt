@@ -5,21 +5,6 @@ use Rattle.answer_text.proofs.Replies.{lines-most, network-wrote}
 use Rattle.answer_text.proofs.reply.put_network.Statement.{statement}
 use Rattle.answer_text.proofs.reply.put_network.Tie as tie
 
-slice-aggregate-put-bytes : tie.Need-slice-aggregate-put-bytes
-slice-aggregate-put-bytes c = search needs
-
-put-bytes-requires : tie.Need-put-bytes-requires
-put-bytes-requires c κs = search needs
-
-cast-put-number : tie.Need-cast-put-number
-cast-put-number c = search needs
-
-put-number-requires : tie.Need-put-number-requires
-put-number-requires c κs = search needs
-
-slice-aggregate-put-bytes-2 : tie.Need-slice-aggregate-put-bytes-2
-slice-aggregate-put-bytes-2 c = search needs
-
 put-bytes-requires-2 : tie.Need-put-bytes-requires-2
 put-bytes-requires-2 c κs =
     omega (arith, number-next (c .before .before .before .before .before .before .before .before .before .before .before .before .before .args .count) (c .before .before .before .before .put-number .ensures))
@@ -28,9 +13,6 @@ put-products-requires : tie.Need-put-products-requires
 put-products-requires c κs =
     let s = c .before .before .before .before .before .before .before .before .before .before .before .before .before .before .before .before .before in
     (s .pre .0, omega (arith, number-next (s .args .count) (c .before .before .before .before .before .before .before .before .put-number .ensures), lines-most (s .args .n) (s .args .count) (s .pre .1) (s .pre .2)), s .pre .1, s .pre .2)
-
-same-length : tie.Need-same-length
-same-length c = search needs
 
 returns : tie.Need-returns
 returns c =
@@ -41,15 +23,4 @@ returns c =
     (c .before .before .put-products .ensures)
 
 pub put-network-spec : {M : Type 1} → statement M
-put-network-spec =
-    tie.close
-    (tie.spec
-    slice-aggregate-put-bytes
-    put-bytes-requires
-    cast-put-number
-    put-number-requires
-    slice-aggregate-put-bytes-2
-    put-bytes-requires-2
-    put-products-requires
-    same-length
-    returns)
+put-network-spec = tie.close (tie.spec (λ c. search needs) (λ c κs. search needs) (λ c. search needs) (λ c κs. search needs) (λ c. search needs) put-bytes-requires-2 put-products-requires (λ c. search needs) returns)

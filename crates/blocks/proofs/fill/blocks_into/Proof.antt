@@ -1,6 +1,5 @@
 use mathlib.Core.Path.{_≡_, refl, _∙_}
-use Prim.Native.Nat.{_≤_}
-use Prim.Native.Nat.{_-_, _*_}
+use Prim.Native.Nat.{_≤_, _-_, _*_}
 use lib.ListN.{length}
 use native.Mathlib.Omega.{arith}
 use Rattle.blocks.specs.Blocks.{stride}
@@ -18,38 +17,11 @@ abbrev μ-loop : tie.MeasureT-loop
 loop-holds : tie.Need-loop-holds Inv-loop μ-loop
 loop-holds c = (filled-start _ _ _ _, refl, omega arith)
 
-mul-loop : tie.Need-mul-loop Inv-loop μ-loop
-mul-loop c = search needs
-
-mul-from : tie.Need-mul-from Inv-loop μ-loop
-mul-from c = search needs
-
-block-end-requires : tie.Need-block-end-requires Inv-loop μ-loop
-block-end-requires c κs = search needs
-
-mul-block-into : tie.Need-mul-block-into Inv-loop μ-loop
-mul-block-into c = search needs
-
-sub-block-into : tie.Need-sub-block-into Inv-loop μ-loop
-sub-block-into c = search needs
-
-part-block-into-start : tie.Need-part-block-into-start Inv-loop μ-loop
-part-block-into-start c = search needs
-
-part-block-into-end : tie.Need-part-block-into-end Inv-loop μ-loop
-part-block-into-end c = search needs
-
 block-into-requires : tie.Need-block-into-requires Inv-loop μ-loop
 block-into-requires c κs =
     let s = c .before .before .before .before .before .before .before in
     let l = c .before .before .before .before .loop in
     (search needs, s .pre .0, omega (arith, l .inv .1, s .pre .1, c .before .before .before .loop-test .taken))
-
-add-b : tie.Need-add-b Inv-loop μ-loop
-add-b c = search needs
-
-loop-less : tie.Need-loop-less Inv-loop μ-loop
-loop-less c = search needs
 
 loop-again : tie.Need-loop-again Inv-loop μ-loop
 loop-again c =
@@ -65,22 +37,4 @@ returns : tie.Need-returns Inv-loop μ-loop
 returns c = filled-end (c .before .loop .inv .0) (c .loop-test .left)
 
 pub blocks-into-spec : {M : Type 1} → statement M
-blocks-into-spec =
-    tie.close
-    (tie.spec
-    Inv-loop
-    μ-loop
-    loop-holds
-    mul-loop
-    mul-from
-    block-end-requires
-    mul-block-into
-    sub-block-into
-    part-block-into-start
-    part-block-into-end
-    block-into-requires
-    add-b
-    loop-less
-    loop-again
-    same-length
-    returns)
+blocks-into-spec = tie.close (tie.spec Inv-loop μ-loop loop-holds (λ c. search needs) (λ c. search needs) (λ c κs. search needs) (λ c. search needs) (λ c. search needs) (λ c. search needs) (λ c. search needs) block-into-requires (λ c. search needs) (λ c. search needs) loop-again same-length returns)

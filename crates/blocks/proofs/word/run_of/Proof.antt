@@ -5,12 +5,6 @@ use borrow.Author.Needs.{needs}
 use Rattle.blocks.proofs.word.run_of.Statement.{statement}
 use Rattle.blocks.proofs.word.run_of.Tie as tie
 
-mul-result : tie.Need-mul-result
-mul-result c = search needs
-
-add-result : tie.Need-add-result
-add-result c = search needs
-
 mul-result-2 : tie.Need-mul-result-2
 mul-result-2 c = let a = c .args in record { fits = omega (arith, run-fits (a .words) (3 * a .i + a .d) {c = 0} (omega (arith, c .pre)) (omega arith), c .pre) }
 
@@ -18,4 +12,4 @@ returns : tie.Need-returns
 returns c = search needs
 
 pub run-of-spec : {M : Type 1} → statement M
-run-of-spec = tie.close (tie.spec mul-result add-result mul-result-2 returns)
+run-of-spec = tie.close (tie.spec (λ c. search needs) (λ c. search needs) mul-result-2 returns)

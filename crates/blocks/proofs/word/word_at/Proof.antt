@@ -8,12 +8,6 @@ use borrow.Author.Needs.{needs}
 use Rattle.blocks.proofs.word.word_at.Statement.{statement}
 use Rattle.blocks.proofs.word.word_at.Tie as tie
 
-stride-requires : tie.Need-stride-requires
-stride-requires c κs = search needs
-
-run-of-requires : tie.Need-run-of-requires
-run-of-requires c κs = search needs
-
 -- The word's place lies in the columns.
 low : (c : tie.After-run-of) → c .run-of .result + c .before .before .before .args .b < length (c .before .before .before .args .columns .now)
 low c =
@@ -35,5 +29,4 @@ returns c =
     ap (λ (y : ℕ). getD (a .columns .now) (y + a .b) 0) (c .before .run-of .ensures ∙ ap (λ (y : ℕ). runOf y (a .i) (a .d)) (c .before .before .stride .ensures))
 
 pub word-at-spec : {M : Type 1} → statement M
-word-at-spec =
-    tie.close (tie.spec stride-requires run-of-requires add-result mul-result shared-slice-read-result returns)
+word-at-spec = tie.close (tie.spec (λ c κs. search needs) (λ c κs. search needs) add-result mul-result shared-slice-read-result returns)

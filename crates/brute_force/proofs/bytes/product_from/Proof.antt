@@ -4,46 +4,13 @@ use Rattle.brute_force.proofs.bytes.product_from.Statement.{statement}
 use Rattle.brute_force.proofs.bytes.product_from.Tie as tie
 
 abbrev Inv-loop : tie.InvT-loop
-Inv-loop n bytes from care₀ value₀ i₀ care value i = i₀ ≤ i
+Inv-loop n bytes from q₀ i₀ q i = i₀ ≤ i
 
 abbrev μ-loop : tie.MeasureT-loop
-μ-loop n bytes from care₀ value₀ i₀ care value i = n - i
-
-loop-holds : tie.Need-loop-holds Inv-loop μ-loop
-loop-holds c = search needs
-
-byte-at-requires : tie.Need-byte-at-requires Inv-loop μ-loop
-byte-at-requires c κs = search needs
-
-bit-requires : tie.Need-bit-requires Inv-loop μ-loop
-bit-requires c κs = search needs
-
-bit-requires-2 : tie.Need-bit-requires-2 Inv-loop μ-loop
-bit-requires-2 c κs = search needs
-
-add-i : tie.Need-add-i Inv-loop μ-loop
-add-i c = search needs
-
-loop-less : tie.Need-loop-less Inv-loop μ-loop
-loop-less c = search needs
-
-loop-again : tie.Need-loop-again Inv-loop μ-loop
-loop-again c = search needs
+μ-loop n bytes from q₀ i₀ q i = n - i
 
 returns : tie.Need-returns Inv-loop μ-loop
 returns c = search needs
 
 pub product-from-spec : {M : Type 1} → statement M
-product-from-spec =
-    tie.close
-    (tie.spec
-    Inv-loop
-    μ-loop
-    loop-holds
-    byte-at-requires
-    bit-requires
-    bit-requires-2
-    add-i
-    loop-less
-    loop-again
-    returns)
+product-from-spec = tie.close (tie.spec Inv-loop μ-loop (λ c. search needs) (λ c κs. search needs) (λ c κs. search needs) (λ c. search needs) (λ c. search needs) (λ c. search needs) returns)

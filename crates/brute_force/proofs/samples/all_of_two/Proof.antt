@@ -9,41 +9,8 @@ Inv-loop counts₀ code₀ counts code = code₀ ≤ code
 abbrev μ-loop : tie.MeasureT-loop
 μ-loop counts₀ code₀ counts code = 1296 - code
 
-loop-holds : tie.Need-loop-holds Inv-loop μ-loop
-loop-holds c = search needs
-
-table-with-requires : tie.Need-table-with-requires Inv-loop μ-loop
-table-with-requires c κs = search needs
-
-with-transition-requires : tie.Need-with-transition-requires Inv-loop μ-loop
-with-transition-requires c κs = search needs
-
-tries-small-requires : tie.Need-tries-small-requires Inv-loop μ-loop
-tries-small-requires c κs = search needs
-
-add-code : tie.Need-add-code Inv-loop μ-loop
-add-code c = search needs
-
-loop-less : tie.Need-loop-less Inv-loop μ-loop
-loop-less c = search needs
-
-loop-again : tie.Need-loop-again Inv-loop μ-loop
-loop-again c = search needs
-
 returns : tie.Need-returns Inv-loop μ-loop
 returns c = search needs
 
 pub all-of-two-spec : {M : Type 1} → statement M
-all-of-two-spec =
-    tie.close
-    (tie.spec
-    Inv-loop
-    μ-loop
-    loop-holds
-    table-with-requires
-    with-transition-requires
-    tries-small-requires
-    add-code
-    loop-less
-    loop-again
-    returns)
+all-of-two-spec = tie.close (tie.spec Inv-loop μ-loop (λ c. search needs) (λ c κs. search needs) (λ c κs. search needs) (λ c κs. search needs) (λ c. search needs) (λ c. search needs) (λ c. search needs) returns)

@@ -9,45 +9,14 @@ Inv-loop net a moved moving last rest₀ counter₀ rest counter = counter₀ �
 abbrev μ-loop : tie.MeasureT-loop
 μ-loop net a moved moving last rest₀ counter₀ rest counter = 64 - counter
 
-loop-holds : tie.Need-loop-holds Inv-loop μ-loop
-loop-holds c = search needs
-
 returns : tie.Need-returns Inv-loop μ-loop
 returns c = search needs
 
-wrapping-sub-u64-requires : tie.Need-wrapping-sub-u64-requires Inv-loop μ-loop
-wrapping-sub-u64-requires c κs = search needs
-
-output-requires : tie.Need-output-requires Inv-loop μ-loop
-output-requires c κs = search needs
-
 returns-2 : tie.Need-returns-2 Inv-loop μ-loop
 returns-2 c = search needs
-
-add-counter : tie.Need-add-counter Inv-loop μ-loop
-add-counter c = search needs
-
-loop-less : tie.Need-loop-less Inv-loop μ-loop
-loop-less c = search needs
-
-loop-again : tie.Need-loop-again Inv-loop μ-loop
-loop-again c = search needs
 
 returns-3 : tie.Need-returns-3 Inv-loop μ-loop
 returns-3 c = search needs
 
 pub leaves-spec : {M : Type 1} → statement M
-leaves-spec =
-    tie.close
-    (tie.spec
-    Inv-loop
-    μ-loop
-    loop-holds
-    returns
-    wrapping-sub-u64-requires
-    output-requires
-    returns-2
-    add-counter
-    loop-less
-    loop-again
-    returns-3)
+leaves-spec = tie.close (tie.spec Inv-loop μ-loop (λ c. search needs) returns (λ c κs. search needs) (λ c κs. search needs) returns-2 (λ c. search needs) (λ c. search needs) (λ c. search needs) returns-3)

@@ -7,15 +7,6 @@ use borrow.Author.Needs.{needs}
 use Rattle.checks.proofs.check.form_checks.Statement.{statement}
 use Rattle.checks.proofs.check.form_checks.Tie as tie
 
-check-inputs-requires : tie.Need-check-inputs-requires
-check-inputs-requires c κs = search needs
-
-enum-told : tie.Need-enum-told
-enum-told c = search needs
-
-enum-told-2 : tie.Need-enum-told-2
-enum-told-2 c = search needs
-
 returns : tie.Need-returns
 returns c =
     let a = c .before .before .before .before .before .args in
@@ -24,12 +15,6 @@ returns c =
 table-checks-requires : tie.Need-table-checks-requires
 table-checks-requires c κs =
     inputs-few (c .before .before .before .before .before .args .n) (passed (c .before .before .check-inputs .ensures) (c .enum-told .given .1)) .1
-
-enum-told-3 : tie.Need-enum-told-3
-enum-told-3 c = search needs
-
-enum-told-4 : tie.Need-enum-told-4
-enum-told-4 c = search needs
 
 returns-2 : tie.Need-returns-2
 returns-2 c =
@@ -49,16 +34,4 @@ returns-3 c =
     ∙ run-passed (tableChecks (a .n) (a .table .now)) (c .before .before .before .table-checks .ensures) (listChecks (a .n) (a .transitions .now)) (c .before .enum-told3 .given .1))
 
 pub form-checks-spec : {M : Type 1} → statement M
-form-checks-spec =
-    tie.close
-    (tie.spec
-    check-inputs-requires
-    enum-told
-    enum-told-2
-    returns
-    table-checks-requires
-    enum-told-3
-    enum-told-4
-    returns-2
-    list-checks-requires
-    returns-3)
+form-checks-spec = tie.close (tie.spec (λ c κs. search needs) (λ c. search needs) (λ c. search needs) returns table-checks-requires (λ c. search needs) (λ c. search needs) returns-2 list-checks-requires returns-3)

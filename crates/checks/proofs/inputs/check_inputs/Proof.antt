@@ -8,14 +8,8 @@ use borrow.Author.Needs.{needs}
 use Rattle.checks.proofs.inputs.check_inputs.Statement.{statement}
 use Rattle.checks.proofs.inputs.check_inputs.Tie as tie
 
-refused-requires : tie.Need-refused-requires
-refused-requires c κs = search needs
-
 returns : tie.Need-returns
 returns c = let n = c .before .before .args .n in c .refused .ensures ∙ refuse-yes (eqb n 0 || ltb 10 n) 1 (or-l (eqb n 0) (ltb 10 n) (eqb-of (c .before .if1 .taken)))
-
-refused-requires-2 : tie.Need-refused-requires-2
-refused-requires-2 c κs = search needs
 
 returns-2 : tie.Need-returns-2
 returns-2 c = let n = c .before .before .before .args .n in c .refused2 .ensures ∙ refuse-yes (eqb n 0 || ltb 10 n) 1 (or-r (eqb n 0) (ltb 10 n) (lt→ltb 10 n (c .before .if2 .taken)))
@@ -24,5 +18,4 @@ returns-3 : tie.Need-returns-3
 returns-3 c = let n = c .before .before .args .n in refuse-no (eqb n 0 || ltb 10 n) 1 (neither (eqb n 0) (ltb 10 n) (λ t. c .before .if1 .left (eqb→eq n 0 t)) (λ t. omega (arith, ltb→lt 10 n t)))
 
 pub check-inputs-spec : {M : Type 1} → statement M
-check-inputs-spec =
-    tie.close (tie.spec refused-requires returns refused-requires-2 returns-2 returns-3)
+check-inputs-spec = tie.close (tie.spec (λ c κs. search needs) returns (λ c κs. search needs) returns-2 returns-3)

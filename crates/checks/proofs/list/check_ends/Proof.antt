@@ -24,21 +24,6 @@ abbrev μ-loop : tie.MeasureT-loop
 loop-holds : tie.Need-loop-holds Inv-loop μ-loop
 loop-holds c = scan-start _ _
 
-start-of-requires : tie.Need-start-of-requires Inv-loop μ-loop
-start-of-requires c κs = search needs
-
-end-of-requires : tie.Need-end-of-requires Inv-loop μ-loop
-end-of-requires c κs = search needs
-
-is-outside-requires : tie.Need-is-outside-requires Inv-loop μ-loop
-is-outside-requires c κs = search needs
-
-cast-refused : tie.Need-cast-refused Inv-loop μ-loop
-cast-refused c = search needs
-
-refused-requires : tie.Need-refused-requires Inv-loop μ-loop
-refused-requires c κs = search needs
-
 -- What the test said of the definition's ends.
 tested : (c : tie.After-is-outside Inv-loop μ-loop) → let a = c .before .before .before .before .before .before .args in let t = c .before .before .before .before .loop .t in
     (leb (2 ^ (a .n)) (start (a .transitions .now) t) || leb (2 ^ (a .n)) (end (a .transitions .now) t)) ≡ c .is-outside .result
@@ -47,12 +32,6 @@ tested c = ap₂ (λ (p q : ℕ). leb (2 ^ (c .before .before .before .before .b
 returns : tie.Need-returns Inv-loop μ-loop
 returns c = c .refused .ensures ∙ ap (Option·map (λ k. refusal 5 k 0)) (scan-hit (c .before .before .before .before .before .before .loop .inv) (omega arith) (tested (c .before .before) ∙ c .before .if1 .taken))
 
-add-t : tie.Need-add-t Inv-loop μ-loop
-add-t c = search needs
-
-loop-less : tie.Need-loop-less Inv-loop μ-loop
-loop-less c = search needs
-
 loop-again : tie.Need-loop-again Inv-loop μ-loop
 loop-again c = scan-miss (c .before .before .before .before .before .loop .inv) (omega arith) (tested (c .before) ∙ c .if1 .left)
 
@@ -60,19 +39,4 @@ returns-2 : tie.Need-returns-2 Inv-loop μ-loop
 returns-2 c = ap (Option·map (λ k. refusal 5 k 0)) (scan-end (c .before .loop .inv) (omega arith))
 
 pub check-ends-spec : {M : Type 1} → statement M
-check-ends-spec =
-    tie.close
-    (tie.spec
-    Inv-loop
-    μ-loop
-    loop-holds
-    start-of-requires
-    end-of-requires
-    is-outside-requires
-    cast-refused
-    refused-requires
-    returns
-    add-t
-    loop-less
-    loop-again
-    returns-2)
+check-ends-spec = tie.close (tie.spec Inv-loop μ-loop loop-holds (λ c κs. search needs) (λ c κs. search needs) (λ c κs. search needs) (λ c. search needs) (λ c κs. search needs) returns (λ c. search needs) (λ c. search needs) loop-again returns-2)

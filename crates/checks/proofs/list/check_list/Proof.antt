@@ -22,24 +22,15 @@ odd l = eqb (length l % 2) 1
 abbrev long : List ℕ → Bool
 long l = ltb 64 (count l)
 
-refused-requires : tie.Need-refused-requires
-refused-requires c κs = search needs
-
 returns : tie.Need-returns
 returns c =
     let l = c .before .before .before .args .transitions .now in
     c .refused .ensures ∙ refuse-yes (empty l || (odd l || long l)) 4 (or-l (empty l) (odd l || long l) (eqb-of (c .before .if1 .taken)))
 
-refused-requires-2 : tie.Need-refused-requires-2
-refused-requires-2 c κs = search needs
-
 returns-2 : tie.Need-returns-2
 returns-2 c =
     let l = c .before .before .before .before .args .transitions .now in
     c .refused2 .ensures ∙ refuse-yes (empty l || (odd l || long l)) 4 (or-r (empty l) (odd l || long l) (or-l (odd l) (long l) (eqb-of (c .before .if2 .taken))))
-
-refused-requires-3 : tie.Need-refused-requires-3
-refused-requires-3 c κs = search needs
 
 returns-3 : tie.Need-returns-3
 returns-3 c =
@@ -52,13 +43,4 @@ returns-4 c =
     refuse-no (empty l || (odd l || long l)) 4 (neither (empty l) (odd l || long l) (λ t. c .before .before .if1 .left (eqb→eq (length l) 0 t)) (neither (odd l) (long l) (λ t. c .before .if2 .left (eqb→eq (length l % 2) 1 t)) (λ t. omega (arith, ltb→lt 64 (count l) t))))
 
 pub check-list-spec : {M : Type 1} → statement M
-check-list-spec =
-    tie.close
-    (tie.spec
-    refused-requires
-    returns
-    refused-requires-2
-    returns-2
-    refused-requires-3
-    returns-3
-    returns-4)
+check-list-spec = tie.close (tie.spec (λ c κs. search needs) returns (λ c κs. search needs) returns-2 (λ c κs. search needs) returns-3 returns-4)

@@ -9,12 +9,6 @@ use borrow.Author.Needs.{needs}
 use Rattle.checks.proofs.list.is_outside.Statement.{statement}
 use Rattle.checks.proofs.list.is_outside.Tie as tie
 
-cast-points : tie.Need-cast-points
-cast-points c = search needs
-
-shl-points : tie.Need-shl-points
-shl-points c = search needs
-
 returns : tie.Need-returns
 returns c = let a = c .before .args in sym (or-true _ _ (le-leb (2 ^ (a .n)) (a .a) (omega (arith, one-shl (a .n) (omega arith)))))
 
@@ -22,4 +16,4 @@ returns-2 : tie.Need-returns-2
 returns-2 c = let a = c .before .args in ap (λ (p : ℕ). leb p (a .b)) (one-shl (a .n) (omega arith)) ∙ sym (or-false _ _ (lt-leb (2 ^ (a .n)) (a .a) (omega (arith, one-shl (a .n) (omega arith)))))
 
 pub is-outside-spec : {M : Type 1} → statement M
-is-outside-spec = tie.close (tie.spec cast-points shl-points returns returns-2)
+is-outside-spec = tie.close (tie.spec (λ c. search needs) (λ c. search needs) returns returns-2)

@@ -7,15 +7,6 @@ use borrow.Author.Needs.{needs}
 use Rattle.checks.proofs.list.list_checks.Statement.{statement}
 use Rattle.checks.proofs.list.list_checks.Tie as tie
 
-check-list-requires : tie.Need-check-list-requires
-check-list-requires c κs = search needs
-
-enum-told : tie.Need-enum-told
-enum-told c = search needs
-
-enum-told-2 : tie.Need-enum-told-2
-enum-told-2 c = search needs
-
 returns : tie.Need-returns
 returns c =
     let a = c .before .before .before .before .args in
@@ -32,6 +23,4 @@ returns-2 c =
     alone (c .check-ends .ensures) ∙ sym (run-passed (listCheck (a .transitions .now) ∷ []) (alone (c .before .before .before .check-list .ensures)) (endsCheck (a .n) (a .transitions .now) ∷ []) (c .before .enum-told .given .1))
 
 pub list-checks-spec : {M : Type 1} → statement M
-list-checks-spec =
-    tie.close
-    (tie.spec check-list-requires enum-told enum-told-2 returns check-ends-requires returns-2)
+list-checks-spec = tie.close (tie.spec (λ c κs. search needs) (λ c. search needs) (λ c. search needs) returns check-ends-requires returns-2)

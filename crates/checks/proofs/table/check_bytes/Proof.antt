@@ -8,8 +8,7 @@ use borrow.Author.Tests.{lt-ltb, le-ltb}
 use Rattle.hazard.specs.Search.{first}
 use Rattle.hazard.specs.Transition.{value}
 use Rattle.hazard.specs.Refusal.{refusal}
-use Rattle.cube.proofs.Scan.{Scan, scan-start, scan-hit, scan-miss, scan-end}
-use Rattle.kinds.proofs.Coded.{read-value}
+use Rattle.cube.proofs.Scan.{Scan, scan-start, scan-hit, scan-miss, scan-end, getD-any}
 use borrow.Author.Needs.{needs}
 use Rattle.checks.proofs.table.check_bytes.Statement.{statement}
 use Rattle.checks.proofs.table.check_bytes.Tie as tie
@@ -23,46 +22,18 @@ abbrev μ-loop : tie.MeasureT-loop
 loop-holds : tie.Need-loop-holds Inv-loop μ-loop
 loop-holds c = scan-start _ _
 
-shared-slice-read-if1 : tie.Need-shared-slice-read-if1 Inv-loop μ-loop
-shared-slice-read-if1 c = search needs
-
-cast-refused : tie.Need-cast-refused Inv-loop μ-loop
-cast-refused c = search needs
-
-refused-requires : tie.Need-refused-requires Inv-loop μ-loop
-refused-requires c κs = search needs
-
 returns : tie.Need-returns Inv-loop μ-loop
 returns c =
     let f = c .before .before .before .before .before .before .args .table .now in
-    c .refused .ensures ∙ ap (Option·map (λ x. refusal 3 0 x)) (scan-hit (c .before .before .before .before .loop .inv) (omega arith) (lt-ltb 2 (value f (c .before .before .before .before .loop .x)) (omega (arith, read-value f (c .before .before .before .before .loop .x) (c .before .before .before .loop-test .taken)))))
-
-add-x : tie.Need-add-x Inv-loop μ-loop
-add-x c = search needs
-
-loop-less : tie.Need-loop-less Inv-loop μ-loop
-loop-less c = search needs
+    c .refused .ensures ∙ ap (Option·map (λ x. refusal 3 0 x)) (scan-hit (c .before .before .before .before .loop .inv) (omega arith) (lt-ltb 2 (value f (c .before .before .before .before .loop .x)) (omega (arith, getD-any f (c .before .before .before .before .loop .x) 0 2 (c .before .before .before .loop-test .taken)))))
 
 loop-again : tie.Need-loop-again Inv-loop μ-loop
 loop-again c =
     let f = c .before .before .before .before .before .args .table .now in
-    scan-miss (c .before .before .before .loop .inv) (omega arith) (le-ltb 2 (value f (c .before .before .before .loop .x)) (omega (arith, read-value f (c .before .before .before .loop .x) (c .before .before .loop-test .taken))))
+    scan-miss (c .before .before .before .loop .inv) (omega arith) (le-ltb 2 (value f (c .before .before .before .loop .x)) (omega (arith, getD-any f (c .before .before .before .loop .x) 0 2 (c .before .before .loop-test .taken))))
 
 returns-2 : tie.Need-returns-2 Inv-loop μ-loop
 returns-2 c = ap (Option·map (λ x. refusal 3 0 x)) (scan-end (c .before .loop .inv) (omega arith))
 
 pub check-bytes-spec : {M : Type 1} → statement M
-check-bytes-spec =
-    tie.close
-    (tie.spec
-    Inv-loop
-    μ-loop
-    loop-holds
-    shared-slice-read-if1
-    cast-refused
-    refused-requires
-    returns
-    add-x
-    loop-less
-    loop-again
-    returns-2)
+check-bytes-spec = tie.close (tie.spec Inv-loop μ-loop loop-holds (λ c. search needs) (λ c. search needs) (λ c κs. search needs) returns (λ c. search needs) (λ c. search needs) loop-again returns-2)

@@ -11,23 +11,11 @@ use borrow.Author.Needs.{needs}
 use Rattle.checks.proofs.table.check_length.Statement.{statement}
 use Rattle.checks.proofs.table.check_length.Tie as tie
 
-cast-points : tie.Need-cast-points
-cast-points c = search needs
-
-shl-points : tie.Need-shl-points
-shl-points c = search needs
-
-cast-points-2 : tie.Need-cast-points-2
-cast-points-2 c = search needs
-
 returns : tie.Need-returns
 returns c =
     let a = c .before .before .args in
     let e : length (a .table .now) ≡ 2 ^ (a .n) = omega (arith, one-shl (a .n) (omega arith)) in
     refuse-no (not (eqb (length (a .table .now)) (2 ^ (a .n)))) 2 (λ t. (simp tests at t) e)
-
-refused-requires : tie.Need-refused-requires
-refused-requires c κs = search needs
 
 returns-2 : tie.Need-returns-2
 returns-2 c =
@@ -36,5 +24,4 @@ returns-2 c =
     c .refused .ensures ∙ refuse-yes (not (eqb (length (a .table .now)) (2 ^ (a .n)))) 2 (simp tests ne)
 
 pub check-length-spec : {M : Type 1} → statement M
-check-length-spec =
-    tie.close (tie.spec cast-points shl-points cast-points-2 returns refused-requires returns-2)
+check-length-spec = tie.close (tie.spec (λ c. search needs) (λ c. search needs) (λ c. search needs) returns (λ c κs. search needs) returns-2)

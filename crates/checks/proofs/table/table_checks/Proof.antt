@@ -9,15 +9,6 @@ use borrow.Author.Needs.{needs}
 use Rattle.checks.proofs.table.table_checks.Statement.{statement}
 use Rattle.checks.proofs.table.table_checks.Tie as tie
 
-check-length-requires : tie.Need-check-length-requires
-check-length-requires c κs = search needs
-
-enum-told : tie.Need-enum-told
-enum-told c = search needs
-
-enum-told-2 : tie.Need-enum-told-2
-enum-told-2 c = search needs
-
 returns : tie.Need-returns
 returns c =
     let a = c .before .before .before .before .args in
@@ -34,6 +25,4 @@ returns-2 c =
     alone (c .check-bytes .ensures) ∙ sym (run-passed (lengthCheck (a .n) (a .table .now) ∷ []) (alone (c .before .before .before .check-length .ensures)) (bytesCheck (a .table .now) ∷ []) (c .before .enum-told .given .1))
 
 pub table-checks-spec : {M : Type 1} → statement M
-table-checks-spec =
-    tie.close
-    (tie.spec check-length-requires enum-told enum-told-2 returns check-bytes-requires returns-2)
+table-checks-spec = tie.close (tie.spec (λ c κs. search needs) (λ c. search needs) (λ c. search needs) returns check-bytes-requires returns-2)

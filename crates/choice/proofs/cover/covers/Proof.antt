@@ -7,21 +7,6 @@ use borrow.Author.Needs.{needs}
 use Rattle.choice.proofs.cover.covers.Statement.{statement}
 use Rattle.choice.proofs.cover.covers.Tie as tie
 
-whole-into-requires : tie.Need-whole-into-requires
-whole-into-requires c κs = search needs
-
-cube-in-requires : tie.Need-cube-in-requires
-cube-in-requires c κs = search needs
-
-narrow-requires : tie.Need-narrow-requires
-narrow-requires c κs = search needs
-
-has-row-requires : tie.Need-has-row-requires
-has-row-requires c κs = search needs
-
-same-length : tie.Need-same-length
-same-length c = search needs
-
 returns : tie.Need-returns
 returns c =
     let s = c .before .before .before .before .before .before .before .before .before .before .before .before .before .before in
@@ -33,12 +18,4 @@ returns c =
     (omega (arith, s .pre .0 .2, w .kept .1 .0)) (λ x l. w .ensures x (omega (arith, w .kept .1 .0))) (m .ensures) (λ b. c .before .before .slice-known3 .given b .fits)
 
 pub covers-spec : {M : Type 1} → statement M
-covers-spec =
-    tie.close
-    (tie.spec
-    whole-into-requires
-    cube-in-requires
-    narrow-requires
-    has-row-requires
-    same-length
-    returns)
+covers-spec = tie.close (tie.spec (λ c κs. search needs) (λ c κs. search needs) (λ c κs. search needs) (λ c κs. search needs) (λ c. search needs) returns)

@@ -15,23 +15,11 @@ abbrev μ-loop : tie.MeasureT-loop
 loop-holds : tie.Need-loop-holds Inv-loop μ-loop
 loop-holds c = placed-start _ _ _ _
 
-mul-note-word : tie.Need-mul-note-word Inv-loop μ-loop
-mul-note-word c = search needs
-
-shared-slice-read-note-word : tie.Need-shared-slice-read-note-word Inv-loop μ-loop
-shared-slice-read-note-word c = search needs
-
 note-word-requires : tie.Need-note-word-requires Inv-loop μ-loop
 note-word-requires c κs =
     let s = c .before .before .before .before .before .before in
     let l = c .before .before .before .loop in
     (omega (arith, s .pre .0), λ i t. rw (l .inv .long) (s .pre .1 i (placed-word (l .inv) i t)))
-
-add-b : tie.Need-add-b Inv-loop μ-loop
-add-b c = search needs
-
-loop-less : tie.Need-loop-less Inv-loop μ-loop
-loop-less c = search needs
 
 loop-again : tie.Need-loop-again Inv-loop μ-loop
 loop-again c = placed-step (c .before .before .before .before .before .before .loop .inv) (omega arith) (c .before .before .note-word .last .0) (c .before .before .note-word .kept .0) (c .before .before .note-word .ensures)
@@ -43,17 +31,4 @@ returns : tie.Need-returns Inv-loop μ-loop
 returns c = placed-end (c .before .loop .inv) (omega arith)
 
 pub note-spec : {M : Type 1} → statement M
-note-spec =
-    tie.close
-    (tie.spec
-    Inv-loop
-    μ-loop
-    loop-holds
-    mul-note-word
-    shared-slice-read-note-word
-    note-word-requires
-    add-b
-    loop-less
-    loop-again
-    same-length
-    returns)
+note-spec = tie.close (tie.spec Inv-loop μ-loop loop-holds (λ c. search needs) (λ c. search needs) note-word-requires (λ c. search needs) (λ c. search needs) loop-again same-length returns)

@@ -14,9 +14,6 @@ abbrev μ-loop : tie.MeasureT-loop
 loop-holds : tie.Need-loop-holds Inv-loop μ-loop
 loop-holds c = placing-start _ _ _ _ _ (c .before .fits .word .fits)
 
-mul-firsts : tie.Need-mul-firsts Inv-loop μ-loop
-mul-firsts c = search needs
-
 cast-firsts : tie.Need-cast-firsts Inv-loop μ-loop
 cast-firsts c = omega (arith, trailing-le 64 (c .before .loop .left))
 
@@ -28,9 +25,6 @@ mul-firsts-2 c = record { fits = omega (arith, trailing-le 64 (c .before .loop .
 
 slice-write-firsts : tie.Need-slice-write-firsts Inv-loop μ-loop
 slice-write-firsts c = placing-at (c .before .loop .inv) (c .loop-test .taken) (c .before .before .before .pre .1)
-
-without-lowest-requires : tie.Need-without-lowest-requires Inv-loop μ-loop
-without-lowest-requires c κs = search needs
 
 loop-less : tie.Need-loop-less Inv-loop μ-loop
 loop-less c = c .without-lowest .ensures .1
@@ -45,19 +39,4 @@ returns : tie.Need-returns Inv-loop μ-loop
 returns c = placing-end (c .before .loop .inv) (c .loop-test .left)
 
 pub note-word-spec : {M : Type 1} → statement M
-note-word-spec =
-    tie.close
-    (tie.spec
-    Inv-loop
-    μ-loop
-    loop-holds
-    mul-firsts
-    cast-firsts
-    add-firsts
-    mul-firsts-2
-    slice-write-firsts
-    without-lowest-requires
-    loop-less
-    loop-again
-    same-length
-    returns)
+note-word-spec = tie.close (tie.spec Inv-loop μ-loop loop-holds (λ c. search needs) cast-firsts add-firsts mul-firsts-2 slice-write-firsts (λ c κs. search needs) loop-less loop-again same-length returns)

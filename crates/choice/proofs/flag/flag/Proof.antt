@@ -16,23 +16,11 @@ abbrev μ-loop : tie.MeasureT-loop
 loop-holds : tie.Need-loop-holds Inv-loop μ-loop
 loop-holds c = placed-start _ _ _ _
 
-mul-flag-word : tie.Need-mul-flag-word Inv-loop μ-loop
-mul-flag-word c = search needs
-
-shared-slice-read-flag-word : tie.Need-shared-slice-read-flag-word Inv-loop μ-loop
-shared-slice-read-flag-word c = search needs
-
 flag-word-requires : tie.Need-flag-word-requires Inv-loop μ-loop
 flag-word-requires c κs =
     let s = c .before .before .before .before .before .before in
     let l = c .before .before .before .loop in
     (omega (arith, s .pre .0), λ i t. rw (l .inv .long) (s .pre .1 i (placed-word (l .inv) i t)))
-
-add-b : tie.Need-add-b Inv-loop μ-loop
-add-b c = search needs
-
-loop-less : tie.Need-loop-less Inv-loop μ-loop
-loop-less c = search needs
 
 loop-again : tie.Need-loop-again Inv-loop μ-loop
 loop-again c = placed-step (c .before .before .before .before .before .before .loop .inv) (omega arith) (c .before .before .flag-word .last .0) (c .before .before .flag-word .kept .0) (c .before .before .flag-word .ensures)
@@ -44,17 +32,4 @@ returns : tie.Need-returns Inv-loop μ-loop
 returns c = placed-end (c .before .loop .inv) (omega arith)
 
 pub flag-spec : {M : Type 1} → statement M
-flag-spec =
-    tie.close
-    (tie.spec
-    Inv-loop
-    μ-loop
-    loop-holds
-    mul-flag-word
-    shared-slice-read-flag-word
-    flag-word-requires
-    add-b
-    loop-less
-    loop-again
-    same-length
-    returns)
+flag-spec = tie.close (tie.spec Inv-loop μ-loop loop-holds (λ c. search needs) (λ c. search needs) flag-word-requires (λ c. search needs) (λ c. search needs) loop-again same-length returns)

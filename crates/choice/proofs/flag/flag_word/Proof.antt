@@ -15,9 +15,6 @@ abbrev μ-loop : tie.MeasureT-loop
 loop-holds : tie.Need-loop-holds Inv-loop μ-loop
 loop-holds c = placing-start _ _ _ _ _ (c .before .fits .word .fits)
 
-mul-flags : tie.Need-mul-flags Inv-loop μ-loop
-mul-flags c = search needs
-
 cast-flags : tie.Need-cast-flags Inv-loop μ-loop
 cast-flags c = omega (arith, trailing-le 64 (c .before .loop .left))
 
@@ -26,9 +23,6 @@ add-flags c = record { fits = omega (arith, trailing-le 64 (c .before .loop .lef
 
 slice-write-flags : tie.Need-slice-write-flags Inv-loop μ-loop
 slice-write-flags c = placing-at (c .before .loop .inv) (c .loop-test .taken) (c .before .before .before .pre .1)
-
-without-lowest-requires : tie.Need-without-lowest-requires Inv-loop μ-loop
-without-lowest-requires c κs = search needs
 
 loop-less : tie.Need-loop-less Inv-loop μ-loop
 loop-less c = c .without-lowest .ensures .1
@@ -43,18 +37,4 @@ returns : tie.Need-returns Inv-loop μ-loop
 returns c = placing-end (c .before .loop .inv) (c .loop-test .left)
 
 pub flag-word-spec : {M : Type 1} → statement M
-flag-word-spec =
-    tie.close
-    (tie.spec
-    Inv-loop
-    μ-loop
-    loop-holds
-    mul-flags
-    cast-flags
-    add-flags
-    slice-write-flags
-    without-lowest-requires
-    loop-less
-    loop-again
-    same-length
-    returns)
+flag-word-spec = tie.close (tie.spec Inv-loop μ-loop loop-holds (λ c. search needs) cast-flags add-flags slice-write-flags (λ c κs. search needs) loop-less loop-again same-length returns)

@@ -17,14 +17,8 @@ abbrev μ-loop : tie.MeasureT-loop
 loop-holds : tie.Need-loop-holds Inv-loop μ-loop
 loop-holds c = lowering-start _ _
 
-sub-i : tie.Need-sub-i Inv-loop μ-loop
-sub-i c = search needs
-
 cast-lowest : tie.Need-cast-lowest Inv-loop μ-loop
 cast-lowest c = let l = c .before .loop in omega (arith, l .inv .within, c .before .before .pre .0)
-
-mul-lowest : tie.Need-mul-lowest Inv-loop μ-loop
-mul-lowest c = search needs
 
 shared-slice-read-lowest : tie.Need-shared-slice-read-lowest Inv-loop μ-loop
 shared-slice-read-lowest c = omega (arith, c .before .before .loop .inv .within, c .before .loop-test .taken)
@@ -42,9 +36,6 @@ mul-lowest-2 c = record { fits = omega (arith, low c) }
 slice-write-lowest : tie.Need-slice-write-lowest Inv-loop μ-loop
 slice-write-lowest c = omega (arith, low c, c .before .before .loop .inv .long, c .before .before .before .pre .1)
 
-loop-less : tie.Need-loop-less Inv-loop μ-loop
-loop-less c = search needs
-
 loop-again : tie.Need-loop-again Inv-loop μ-loop
 loop-again c = lowering-step (c .before .before .loop .inv) (omega (arith, c .before .loop-test .taken)) (omega (arith, low c, c .before .before .before .pre .1))
 
@@ -58,20 +49,4 @@ returns c =
     lowering-end (rw e at (l .inv))
 
 pub lowest-into-spec : {M : Type 1} → statement M
-lowest-into-spec =
-    tie.close
-    (tie.spec
-    Inv-loop
-    μ-loop
-    loop-holds
-    sub-i
-    cast-lowest
-    mul-lowest
-    shared-slice-read-lowest
-    cast-lowest-2
-    mul-lowest-2
-    slice-write-lowest
-    loop-less
-    loop-again
-    same-length
-    returns)
+lowest-into-spec = tie.close (tie.spec Inv-loop μ-loop loop-holds (λ c. search needs) cast-lowest (λ c. search needs) shared-slice-read-lowest cast-lowest-2 mul-lowest-2 slice-write-lowest (λ c. search needs) loop-again same-length returns)

@@ -9,20 +9,14 @@ use borrow.Author.Needs.{needs}
 use Rattle.choice.proofs.keep.needed.Statement.{statement}
 use Rattle.choice.proofs.keep.needed.Tie as tie
 
-needed-at-requires : tie.Need-needed-at-requires
-needed-at-requires c κs = search needs
-
 returns : tie.Need-returns
 returns c =
     let a = c .before .before .before .before .before .args in
     let t = neededIn (a .firsts .now) (a .flags .now) (a .j) in
     sym (is {b = found (first t 0 (length (a .firsts .now)))} (any-i t (length (a .firsts .now)) (a .lowest) (omega arith) (so (sym (c .before .needed-at .ensures) ∙ c .if2 .taken))))
 
-needed-by-any-requires : tie.Need-needed-by-any-requires
-needed-by-any-requires c κs = search needs
-
 returns-2 : tie.Need-returns-2
 returns-2 c = search needs
 
 pub needed-spec : {M : Type 1} → statement M
-needed-spec = tie.close (tie.spec needed-at-requires returns needed-by-any-requires returns-2)
+needed-spec = tie.close (tie.spec (λ c κs. search needs) returns (λ c κs. search needs) returns-2)

@@ -18,17 +18,8 @@ abbrev μ-loop : tie.MeasureT-loop
 loop-holds : tie.Need-loop-holds Inv-loop μ-loop
 loop-holds c = scan-start _ _
 
-needed-at-requires : tie.Need-needed-at-requires Inv-loop μ-loop
-needed-at-requires c κs = search needs
-
 returns : tie.Need-returns Inv-loop μ-loop
 returns c = ap found (scan-hit (c .before .before .before .loop .inv) (omega arith) (sym (c .before .needed-at .ensures) ∙ c .if1 .taken))
-
-add-i : tie.Need-add-i Inv-loop μ-loop
-add-i c = search needs
-
-loop-less : tie.Need-loop-less Inv-loop μ-loop
-loop-less c = search needs
 
 loop-again : tie.Need-loop-again Inv-loop μ-loop
 loop-again c = scan-miss (c .before .before .before .loop .inv) (omega arith) (sym (c .before .needed-at .ensures) ∙ c .if1 .left)
@@ -37,15 +28,4 @@ returns-2 : tie.Need-returns-2 Inv-loop μ-loop
 returns-2 c = ap found (scan-end (c .before .loop .inv) (omega arith))
 
 pub needed-by-any-spec : {M : Type 1} → statement M
-needed-by-any-spec =
-    tie.close
-    (tie.spec
-    Inv-loop
-    μ-loop
-    loop-holds
-    needed-at-requires
-    returns
-    add-i
-    loop-less
-    loop-again
-    returns-2)
+needed-by-any-spec = tie.close (tie.spec Inv-loop μ-loop loop-holds (λ c κs. search needs) returns (λ c. search needs) (λ c. search needs) loop-again returns-2)

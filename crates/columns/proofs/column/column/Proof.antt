@@ -1,4 +1,3 @@
-use Prim.Native.Nat.{_-_}
 use native.Mathlib.Omega.{arith}
 use borrow.Author.Needs.{needs}
 use Rattle.columns.proofs.ColumnBits.{Read, read-start, read-room, read-step, read-end}
@@ -14,9 +13,6 @@ abbrev μ-loop : tie.MeasureT-loop
 loop-holds : tie.Need-loop-holds Inv-loop μ-loop
 loop-holds c = read-start _ _
 
-sub-k : tie.Need-sub-k Inv-loop μ-loop
-sub-k c = search needs
-
 mul-r : tie.Need-mul-r Inv-loop μ-loop
 mul-r c = omega (arith, read-room (c .before .loop .inv) (c .loop-test .taken) (c .before .before .pre .0))
 
@@ -26,14 +22,8 @@ mul-r-2 c = omega (arith, c .before .loop .inv .low)
 shared-slice-read-r : tie.Need-shared-slice-read-r Inv-loop μ-loop
 shared-slice-read-r c = omega (arith, c .before .before .loop .inv .low)
 
-shr-r : tie.Need-shr-r Inv-loop μ-loop
-shr-r c = search needs
-
 add-r : tie.Need-add-r Inv-loop μ-loop
 add-r c = omega (arith, read-room (c .before .before .loop .inv) (c .before .loop-test .taken) (c .before .before .before .pre .0))
-
-loop-less : tie.Need-loop-less Inv-loop μ-loop
-loop-less c = search needs
 
 loop-again : tie.Need-loop-again Inv-loop μ-loop
 loop-again c = read-step (c .before .before .loop .inv) (c .before .loop-test .taken)
@@ -42,18 +32,4 @@ returns : tie.Need-returns Inv-loop μ-loop
 returns c = read-end (c .before .loop .inv) (omega arith)
 
 pub column-spec : {M : Type 1} → statement M
-column-spec =
-    tie.close
-    (tie.spec
-    Inv-loop
-    μ-loop
-    loop-holds
-    sub-k
-    mul-r
-    mul-r-2
-    shared-slice-read-r
-    shr-r
-    add-r
-    loop-less
-    loop-again
-    returns)
+column-spec = tie.close (tie.spec Inv-loop μ-loop loop-holds (λ c. search needs) mul-r mul-r-2 shared-slice-read-r (λ c. search needs) add-r (λ c. search needs) loop-again returns)

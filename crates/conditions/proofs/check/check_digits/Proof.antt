@@ -16,20 +16,11 @@ Inv-loop n bytes count at₀ j₀ at j = (at ≡ j * n) × Scan (badAt n bytes) 
 abbrev μ-loop : tie.MeasureT-loop
 μ-loop n bytes count at₀ j₀ at j = count - j
 
-div-count : tie.Need-div-count Inv-loop μ-loop
-div-count c = search needs
-
 loop-holds : tie.Need-loop-holds Inv-loop μ-loop
 loop-holds c = (sym (zero-mul _), scan-start _ _)
 
 bad-product-requires : tie.Need-bad-product-requires Inv-loop μ-loop
 bad-product-requires c κs = let s = c .before .before .before in (omega arith, place-room (s .args .n) (s .args .bytes .now) (c .before .loop .inv .0) (omega arith))
-
-cast-refuse-product : tie.Need-cast-refuse-product Inv-loop μ-loop
-cast-refuse-product c = search needs
-
-refuse-product-requires : tie.Need-refuse-product-requires Inv-loop μ-loop
-refuse-product-requires c κs = search needs
 
 returns : tie.Need-returns Inv-loop μ-loop
 returns c =
@@ -42,12 +33,6 @@ add-at : tie.Need-add-at Inv-loop μ-loop
 add-at c =
     let s = c .before .before .before .before .before in
     omega (arith, place-room (s .args .n) (s .args .bytes .now) (c .before .before .before .loop .inv .0) (omega arith), s .good)
-
-add-j : tie.Need-add-j Inv-loop μ-loop
-add-j c = search needs
-
-loop-less : tie.Need-loop-less Inv-loop μ-loop
-loop-less c = search needs
 
 loop-again : tie.Need-loop-again Inv-loop μ-loop
 loop-again c =
@@ -63,19 +48,4 @@ returns-2 c =
     digits-none (s .args .n) (s .args .bytes .now) (scan-end (c .before .loop .inv .1) (omega arith))
 
 pub check-digits-spec : {M : Type 1} → statement M
-check-digits-spec =
-    tie.close
-    (tie.spec
-    Inv-loop
-    μ-loop
-    div-count
-    loop-holds
-    bad-product-requires
-    cast-refuse-product
-    refuse-product-requires
-    returns
-    add-at
-    add-j
-    loop-less
-    loop-again
-    returns-2)
+check-digits-spec = tie.close (tie.spec Inv-loop μ-loop (λ c. search needs) loop-holds bad-product-requires (λ c. search needs) (λ c κs. search needs) returns add-at (λ c. search needs) (λ c. search needs) loop-again returns-2)

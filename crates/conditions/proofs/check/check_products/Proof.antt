@@ -11,20 +11,11 @@ use borrow.Author.Needs.{needs}
 use Rattle.conditions.proofs.check.check_products.Statement.{statement}
 use Rattle.conditions.proofs.check.check_products.Tie as tie
 
-rem-if1 : tie.Need-rem-if1
-rem-if1 c = search needs
-
-refused-requires : tie.Need-refused-requires
-refused-requires c κs = search needs
-
 returns : tie.Need-returns
 returns c =
     let a = c .before .before .before .args in
     let m = length (a .bytes .now) in
     c .refused .ensures ∙ refuse-yes (not (eqb (m % a .n) 0) || ltb mostProducts (m / a .n)) 11 (or-l (not (eqb (m % a .n) 0)) (ltb mostProducts (m / a .n)) (T-no (eqb (m % a .n) 0) .1 (λ t. c .before .if1 .taken (eqb→eq (m % a .n) 0 t))))
-
-div-if2 : tie.Need-div-if2
-div-if2 c = search needs
 
 returns-2 : tie.Need-returns-2
 returns-2 c =
@@ -33,9 +24,6 @@ returns-2 c =
     refuse-no (not (eqb (m % a .n) 0) || ltb mostProducts (m / a .n)) 11
     (neither (not (eqb (m % a .n) 0)) (ltb mostProducts (m / a .n)) (λ t. T-no (eqb (m % a .n) 0) .0 t (eqb-of (c .before .if1 .left))) (λ t. omega (arith, ltb→lt mostProducts (m / a .n) t, c .if2 .taken)))
 
-refused-requires-2 : tie.Need-refused-requires-2
-refused-requires-2 c κs = search needs
-
 returns-3 : tie.Need-returns-3
 returns-3 c =
     let a = c .before .before .before .before .args in
@@ -43,6 +31,4 @@ returns-3 c =
     c .refused2 .ensures ∙ refuse-yes (not (eqb (m % a .n) 0) || ltb mostProducts (m / a .n)) 11 (or-r (not (eqb (m % a .n) 0)) (ltb mostProducts (m / a .n)) (lt→ltb mostProducts (m / a .n) (omega (arith, c .before .if2 .left))))
 
 pub check-products-spec : {M : Type 1} → statement M
-check-products-spec =
-    tie.close
-    (tie.spec rem-if1 refused-requires returns div-if2 returns-2 refused-requires-2 returns-3)
+check-products-spec = tie.close (tie.spec (λ c. search needs) (λ c κs. search needs) returns (λ c. search needs) returns-2 (λ c κs. search needs) returns-3)

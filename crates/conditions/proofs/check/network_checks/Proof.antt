@@ -7,15 +7,6 @@ use borrow.Author.Needs.{needs}
 use Rattle.conditions.proofs.check.network_checks.Statement.{statement}
 use Rattle.conditions.proofs.check.network_checks.Tie as tie
 
-check-products-requires : tie.Need-check-products-requires
-check-products-requires c κs = search needs
-
-enum-told : tie.Need-enum-told
-enum-told c = search needs
-
-enum-told-2 : tie.Need-enum-told-2
-enum-told-2 c = search needs
-
 returns : tie.Need-returns
 returns c =
     let a = c .before .before .before .before .args in
@@ -32,12 +23,4 @@ returns-2 c =
     alone (c .check-digits .ensures) ∙ sym (run-passed (productsCheck (a .n) (a .bytes .now) ∷ []) (alone (c .before .before .before .check-products .ensures)) (digitsCheck (a .n) (products (a .n) (a .bytes .now)) ∷ []) (c .before .enum-told .given .1))
 
 pub network-checks-spec : {M : Type 1} → statement M
-network-checks-spec =
-    tie.close
-    (tie.spec
-    check-products-requires
-    enum-told
-    enum-told-2
-    returns
-    check-digits-requires
-    returns-2)
+network-checks-spec = tie.close (tie.spec (λ c κs. search needs) (λ c. search needs) (λ c. search needs) returns check-digits-requires returns-2)

@@ -22,32 +22,17 @@ abbrev μ-loop : tie.MeasureT-loop
 loop-holds : tie.Need-loop-holds Inv-loop μ-loop
 loop-holds c = (refl, left-start)
 
-mul-w : tie.Need-mul-w Inv-loop μ-loop
-mul-w c = search needs
-
-shared-slice-read-w : tie.Need-shared-slice-read-w Inv-loop μ-loop
-shared-slice-read-w c = search needs
-
 covers-requires : tie.Need-covers-requires Inv-loop μ-loop
 covers-requires c κs =
     let s = c .before .before .before .before .before .before .before .before in
     let e = c .before .before .before .loop .inv .0 in
     ((s .pre .0 .0, omega (arith, s .pre .0 .1, e), omega (arith, s .pre .0 .2, e)), s .pre .1)
 
-same-length : tie.Need-same-length Inv-loop μ-loop
-same-length c = search needs
-
 returns : tie.Need-returns Inv-loop μ-loop
 returns c =
     let a = c .before .before .before .before .before .before .before .before .before .before .before .before .args in
     find-hit (λ (r : Required). not (covered (networkIn (a .n) (a .products .now)) (r .cube))) (requiredIn (a .n)) (c .before .before .before .before .before .before .before .loop .inv .1) (omega arith)
     (ap not (sym (c .before .before .before .covers .ensures)) ∙ c .if1 .taken)
-
-add-k : tie.Need-add-k Inv-loop μ-loop
-add-k c = search needs
-
-loop-less : tie.Need-loop-less Inv-loop μ-loop
-loop-less c = search needs
 
 loop-again : tie.Need-loop-again Inv-loop μ-loop
 loop-again c =
@@ -58,26 +43,8 @@ loop-again c =
           (ap not (sym (c .before .before .before .covers .ensures)) ∙ c .if1 .left),
     )
 
-same-length-2 : tie.Need-same-length-2 Inv-loop μ-loop
-same-length-2 c = search needs
-
 returns-2 : tie.Need-returns-2 Inv-loop μ-loop
 returns-2 c = left-end (c .before .loop .inv .1) (omega arith)
 
 pub fault-b-spec : {M : Type 1} → statement M
-fault-b-spec =
-    tie.close
-    (tie.spec
-    Inv-loop
-    μ-loop
-    loop-holds
-    mul-w
-    shared-slice-read-w
-    covers-requires
-    same-length
-    returns
-    add-k
-    loop-less
-    loop-again
-    same-length-2
-    returns-2)
+fault-b-spec = tie.close (tie.spec Inv-loop μ-loop loop-holds (λ c. search needs) (λ c. search needs) covers-requires (λ c. search needs) returns (λ c. search needs) (λ c. search needs) loop-again (λ c. search needs) returns-2)

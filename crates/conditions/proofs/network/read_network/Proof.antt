@@ -16,9 +16,6 @@ Inv-loop n bytes out₀ count at₀ j₀ out at j = Reading n bytes out at j × 
 abbrev μ-loop : tie.MeasureT-loop
 μ-loop n bytes out₀ count at₀ j₀ out at j = count - j
 
-div-count : tie.Need-div-count Inv-loop μ-loop
-div-count c = search needs
-
 loop-holds : tie.Need-loop-holds Inv-loop μ-loop
 loop-holds c = (reading-start _ _ _, refl)
 
@@ -28,25 +25,10 @@ product-at-requires c κs =
     let l = c .before .loop in
     (s .pre .0 .small, place-room (s .args .n) (s .args .bytes .now) (l .inv .0 .place) (omega arith), byte-le (s .pre .0) (l .inv .0 .place) (omega arith))
 
-pack-requires : tie.Need-pack-requires Inv-loop μ-loop
-pack-requires c κs = search needs
-
-mul-out : tie.Need-mul-out Inv-loop μ-loop
-mul-out c = search needs
-
-slice-write-out : tie.Need-slice-write-out Inv-loop μ-loop
-slice-write-out c = search needs
-
 add-at : tie.Need-add-at Inv-loop μ-loop
 add-at c =
     let s = c .before .before .before .before .before .before in
     omega (arith, place-room (s .args .n) (s .args .bytes .now) (c .before .before .before .loop .inv .0 .place) (omega arith), s .good)
-
-add-j : tie.Need-add-j Inv-loop μ-loop
-add-j c = search needs
-
-loop-less : tie.Need-loop-less Inv-loop μ-loop
-loop-less c = search needs
 
 loop-again : tie.Need-loop-again Inv-loop μ-loop
 loop-again c =
@@ -55,9 +37,6 @@ loop-again c =
     let d = c .before .product-at .ensures in
     (reading-step (l .inv .0) (omega arith) (omega (arith, l .inv .1, s .pre .0 .few)) (packed-is (c .pack .ensures) d) (packed-clean (c .pack .ensures) d (pow-pos (s .args .n))), simp length-set (l .inv .1))
 
-same-length : tie.Need-same-length Inv-loop μ-loop
-same-length c = search needs
-
 returns : tie.Need-returns Inv-loop μ-loop
 returns c =
     let s = c .before .before .before .before in
@@ -65,20 +44,4 @@ returns c =
     reading-end (l .inv .0) (omega (arith, l .inv .0 .low)) (omega (arith, l .inv .1, l .inv .0 .low, s .pre .0 .few))
 
 pub read-network-spec : {M : Type 1} → statement M
-read-network-spec =
-    tie.close
-    (tie.spec
-    Inv-loop
-    μ-loop
-    div-count
-    loop-holds
-    product-at-requires
-    pack-requires
-    mul-out
-    slice-write-out
-    add-at
-    add-j
-    loop-less
-    loop-again
-    same-length
-    returns)
+read-network-spec = tie.close (tie.spec Inv-loop μ-loop (λ c. search needs) loop-holds product-at-requires (λ c κs. search needs) (λ c. search needs) (λ c. search needs) add-at (λ c. search needs) (λ c. search needs) loop-again (λ c. search needs) returns)

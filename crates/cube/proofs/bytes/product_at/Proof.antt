@@ -49,16 +49,4 @@ returns c =
     rw (e, sub-zero) at (l .inv .1)
 
 pub product-at-spec : {M : Type 1} → statement M
-product-at-spec =
-    tie.close
-    (tie.spec
-    Inv-loop
-    μ-loop
-    loop-holds
-    sub-i
-    add-prepended
-    shared-slice-read-prepended
-    prepended-requires
-    loop-less
-    loop-again
-    returns)
+product-at-spec = tie.close (tie.spec Inv-loop μ-loop loop-holds sub-i add-prepended shared-slice-read-prepended prepended-requires loop-less loop-again returns)

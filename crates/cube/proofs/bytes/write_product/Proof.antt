@@ -18,32 +18,14 @@ abbrev μ-loop : tie.MeasureT-loop
 loop-holds : tie.Need-loop-holds Inv-loop μ-loop
 loop-holds c = let a = c .before .args in (omega arith, paste-zero (a .out .now) (a .at) (cubeOf (a .n) (a .c)), refl)
 
-digit-of-requires : tie.Need-digit-of-requires Inv-loop μ-loop
-digit-of-requires c κs = search needs
-
-add-out : tie.Need-add-out Inv-loop μ-loop
-add-out c = search needs
-
-slice-write-out : tie.Need-slice-write-out Inv-loop μ-loop
-slice-write-out c = search needs
-
-add-i : tie.Need-add-i Inv-loop μ-loop
-add-i c = search needs
-
-loop-less : tie.Need-loop-less Inv-loop μ-loop
-loop-less c = search needs
-
 loop-again : tie.Need-loop-again Inv-loop μ-loop
 loop-again c =
     let s = c .before .before .before .before in
     let l = c .before .before .loop in (
       omega arith,
-      rw (l .inv .1, c .digit-of .ensures) (write-step (s .args .out .now) (s .args .at) (s .args .n) (s .args .c .care) (s .args .c .value) (l .i) (omega arith) (s .pre .1)),
+      rw (l .inv .1, c .digit-at .ensures .0) (write-step (s .args .out .now) (s .args .at) (s .args .n) (s .args .c .care) (s .args .c .value) (l .i) (omega arith) (s .pre .1)),
       simp length-set (l .inv .2),
     )
-
-same-length : tie.Need-same-length Inv-loop μ-loop
-same-length c = search needs
 
 returns : tie.Need-returns Inv-loop μ-loop
 returns c =
@@ -53,17 +35,4 @@ returns c =
     l .inv .1 ∙ ap (paste (a .out .now) (a .at) (cubeOf (a .n) (a .c))) e
 
 pub write-product-spec : {M : Type 1} → statement M
-write-product-spec =
-    tie.close
-    (tie.spec
-    Inv-loop
-    μ-loop
-    loop-holds
-    digit-of-requires
-    add-out
-    slice-write-out
-    add-i
-    loop-less
-    loop-again
-    same-length
-    returns)
+write-product-spec = tie.close (tie.spec Inv-loop μ-loop loop-holds (λ c κs. search needs) (λ c. search needs) (λ c. search needs) (λ c. search needs) (λ c. search needs) (λ c. search needs) loop-again (λ c. search needs) returns)

@@ -4,12 +4,6 @@ use Rattle.cube.proofs.Masks.{raise-masks, without, without-lt}
 use Rattle.cube.proofs.mask.raised.Statement.{statement}
 use Rattle.cube.proofs.mask.raised.Tie as tie
 
-cast-care : tie.Need-cast-care
-cast-care c = search needs
-
-shl-care : tie.Need-shl-care
-shl-care c = search needs
-
 returns : tie.Need-returns
 returns c n h =
     let a = c .before .before .before .args in
@@ -19,4 +13,4 @@ returns c n h =
     })
 
 pub raised-spec : {M : Type 1} → statement M
-raised-spec = tie.close (tie.spec cast-care shl-care returns)
+raised-spec = tie.close (tie.spec (λ c. search needs) (λ c. search needs) returns)

@@ -8,12 +8,6 @@ use Rattle.cube.proofs.Masks.{span-masks, same, same-lt}
 use Rattle.cube.proofs.mask.span_of.Statement.{statement}
 use Rattle.cube.proofs.mask.span_of.Tie as tie
 
-cast-care : tie.Need-cast-care
-cast-care c = search needs
-
-shl-care : tie.Need-shl-care
-shl-care c = search needs
-
 sub-care : tie.Need-sub-care
 sub-care c = omega (arith, one-shl (c .args .n) (omega arith), pow-pos (c .args .n))
 
@@ -30,4 +24,4 @@ returns c =
     }
 
 pub span-of-spec : {M : Type 1} → statement M
-span-of-spec = tie.close (tie.spec cast-care shl-care sub-care returns)
+span-of-spec = tie.close (tie.spec (λ c. search needs) (λ c. search needs) sub-care returns)

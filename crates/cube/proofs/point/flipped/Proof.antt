@@ -6,14 +6,8 @@ use Rattle.cube.proofs.Points.{flip-xor}
 use Rattle.cube.proofs.point.flipped.Statement.{statement}
 use Rattle.cube.proofs.point.flipped.Tie as tie
 
-cast-result : tie.Need-cast-result
-cast-result c = search needs
-
-shl-result : tie.Need-shl-result
-shl-result c = search needs
-
 returns : tie.Need-returns
 returns c = ap (bitXor (c .args .x)) (one-shl (c .args .i) (c .pre)) ∙ flip-xor (c .args .x) (c .args .i)
 
 pub flipped-spec : {M : Type 1} → statement M
-flipped-spec = tie.close (tie.spec cast-result shl-result returns)
+flipped-spec = tie.close (tie.spec (λ c. search needs) (λ c. search needs) returns)

@@ -6,16 +6,10 @@ use Rattle.cube.proofs.Following.{next-is}
 use Rattle.cube.proofs.point.next.Statement.{statement}
 use Rattle.cube.proofs.point.next.Tie as tie
 
-cast-care : tie.Need-cast-care
-cast-care c = search needs
-
 add-y : tie.Need-add-y
 add-y c =
     let s = c .before in
     omega (arith, or-lt (s .args .n) (s .args .x) (s .args .c .care) (s .pre .2) (s .pre .1 .small), pow-mono {j = 10} (s .pre .0))
-
-cast-result : tie.Need-cast-result
-cast-result c = search needs
 
 returns : tie.Need-returns
 returns c =
@@ -23,4 +17,4 @@ returns c =
     next-is (s .args .n) (s .args .c .care) (s .args .c .value) (s .args .x) (s .pre .1 .small) (s .pre .1 .clean) (s .pre .2) (s .pre .3)
 
 pub next-spec : {M : Type 1} → statement M
-next-spec = tie.close (tie.spec cast-care add-y cast-result returns)
+next-spec = tie.close (tie.spec (λ c. search needs) add-y (λ c. search needs) returns)

@@ -4,12 +4,6 @@ use borrow.Author.Needs.{needs}
 use Rattle.expand.proofs.prime.grown_or.Statement.{statement}
 use Rattle.expand.proofs.prime.grown_or.Tie as tie
 
-enum-known-grown : tie.Need-enum-known-grown
-enum-known-grown c = search needs
-
-enum-told : tie.Need-enum-told
-enum-told c = search needs
-
 returns : tie.Need-returns
 returns c n k g = let e = c .before .grown .given .1 in rw e (record { fits = subst (LegalClean n) e g; is = refl })
 
@@ -17,4 +11,4 @@ returns-2 : tie.Need-returns-2
 returns-2 c n k g = let e = c .enum-told .given .1 in rw e (record { fits = k; is = refl })
 
 pub grown-or-spec : {M : Type 1} → statement M
-grown-or-spec = tie.close (tie.spec enum-known-grown enum-told returns returns-2)
+grown-or-spec = tie.close (tie.spec (λ c. search needs) (λ c. search needs) returns returns-2)

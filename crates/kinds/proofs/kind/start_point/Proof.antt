@@ -2,18 +2,6 @@ use borrow.Author.Needs.{needs}
 use Rattle.kinds.proofs.kind.start_point.Statement.{statement}
 use Rattle.kinds.proofs.kind.start_point.Tie as tie
 
-enum-told : tie.Need-enum-told
-enum-told c = search needs
-
-enum-told-2 : tie.Need-enum-told-2
-enum-told-2 c = search needs
-
-enum-told-3 : tie.Need-enum-told-3
-enum-told-3 c = search needs
-
-enum-told-4 : tie.Need-enum-told-4
-enum-told-4 c = search needs
-
 returns : tie.Need-returns
 returns c = search needs
 
@@ -27,6 +15,4 @@ returns-4 : tie.Need-returns-4
 returns-4 c = search needs
 
 pub start-point-spec : {M : Type 1} → statement M
-start-point-spec =
-    tie.close
-    (tie.spec enum-told enum-told-2 enum-told-3 enum-told-4 returns returns-2 returns-3 returns-4)
+start-point-spec = tie.close (tie.spec (λ c. search needs) (λ c. search needs) (λ c. search needs) (λ c. search needs) returns returns-2 returns-3 returns-4)

@@ -12,23 +12,8 @@ use borrow.Author.Needs.{needs}
 use Rattle.moves.proofs.further.across.Statement.{statement}
 use Rattle.moves.proofs.further.across.Tie as tie
 
-cast-u : tie.Need-cast-u
-cast-u c = search needs
-
-bit-of-requires : tie.Need-bit-of-requires
-bit-of-requires c κs = search needs
-
 returns : tie.Need-returns
 returns c = let a = c .before .before .before .args in across-none (a .set .now) (a .w) (a .from) (a .j) (λ e. c .if1 .taken (c .before .bit-of .ensures ∙ e))
-
-flipped-requires : tie.Need-flipped-requires
-flipped-requires c κs = search needs
-
-cast-result : tie.Need-cast-result
-cast-result c = search needs
-
-mul-result : tie.Need-mul-result
-mul-result c = search needs
 
 shared-slice-read-result : tie.Need-shared-slice-read-result
 shared-slice-read-result c = let s = c .before .before .before .before .before in omega (arith, c .before .flipped .ensures, flip-lt 4 (s .args .w) (s .args .j) (s .pre .1) (s .pre .2), s .pre .0)
@@ -40,14 +25,4 @@ returns-2 c =
     (across-here (a .set .now) (a .w) (a .from) (a .j) (sym (c .before .before .before .bit-of .ensures) ∙ c .before .before .if1 .left) (c .shared-slice-known2 .given (flip (a .w) (a .j)) .fits))
 
 pub across-spec : {M : Type 1} → statement M
-across-spec =
-    tie.close
-    (tie.spec
-    cast-u
-    bit-of-requires
-    returns
-    flipped-requires
-    cast-result
-    mul-result
-    shared-slice-read-result
-    returns-2)
+across-spec = tie.close (tie.spec (λ c. search needs) (λ c κs. search needs) returns (λ c κs. search needs) (λ c. search needs) (λ c. search needs) shared-slice-read-result returns-2)

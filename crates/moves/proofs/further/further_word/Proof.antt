@@ -38,16 +38,4 @@ returns : tie.Need-returns Inv-loop μ-loop
 returns c = moving-end (c .before .loop .inv) (c .loop-test .left)
 
 pub further-word-spec : {M : Type 1} → statement M
-further-word-spec =
-    tie.close
-    (tie.spec
-    Inv-loop
-    μ-loop
-    loop-holds
-    cast-i
-    moving-requires
-    cast-left
-    shl-left
-    loop-less
-    loop-again
-    returns)
+further-word-spec = tie.close (tie.spec Inv-loop μ-loop loop-holds cast-i moving-requires cast-left shl-left loop-less loop-again returns)

@@ -6,25 +6,10 @@ use borrow.Author.Needs.{needs}
 use Rattle.moves.proofs.further.moving.Statement.{statement}
 use Rattle.moves.proofs.further.moving.Tie as tie
 
-bit-of-requires : tie.Need-bit-of-requires
-bit-of-requires c κs = search needs
-
-mul-within : tie.Need-mul-within
-mul-within c = search needs
-
-shared-slice-read-within : tie.Need-shared-slice-read-within
-shared-slice-read-within c = search needs
-
-within-requires : tie.Need-within-requires
-within-requires c κs = search needs
-
 returns : tie.Need-returns
 returns c =
     let a = c .before .before .before .before .before .args in
     rw (c .before .before .before .bit-of .ensures) at (within-word (a .set .now) (a .w) (c .before .before .before .bit-of .result) (c .before .before .if1 .taken) (c .within .ensures))
-
-across-requires : tie.Need-across-requires
-across-requires c κs = search needs
 
 returns-2 : tie.Need-returns-2
 returns-2 c =
@@ -33,13 +18,4 @@ returns-2 c =
     rw (c .before .before .bit-of .ensures, q) at (c .across .ensures)
 
 pub moving-spec : {M : Type 1} → statement M
-moving-spec =
-    tie.close
-    (tie.spec
-    bit-of-requires
-    mul-within
-    shared-slice-read-within
-    within-requires
-    returns
-    across-requires
-    returns-2)
+moving-spec = tie.close (tie.spec (λ c κs. search needs) (λ c. search needs) (λ c. search needs) (λ c κs. search needs) returns (λ c κs. search needs) returns-2)

@@ -7,18 +7,6 @@ use borrow.Author.Needs.{needs}
 use Rattle.moves.proofs.further.side.Statement.{statement}
 use Rattle.moves.proofs.further.side.Tie as tie
 
-mul-result : tie.Need-mul-result
-mul-result c = search needs
-
-add-result : tie.Need-add-result
-add-result c = search needs
-
-mul-result-2 : tie.Need-mul-result-2
-mul-result-2 c = search needs
-
-array-read-result : tie.Need-array-read-result
-array-read-result c = search needs
-
 -- The code's table, and its rule at each entry.
 abbrev sides : List ℕ
 sides =
@@ -38,4 +26,4 @@ returns : tie.Need-returns
 returns c = side-of sides right (c .args .i) (c .args .from) (c .pre .0) (c .pre .1)
 
 pub side-spec : {M : Type 1} → statement M
-side-spec = tie.close (tie.spec mul-result add-result mul-result-2 array-read-result returns)
+side-spec = tie.close (tie.spec (λ c. search needs) (λ c. search needs) (λ c. search needs) (λ c. search needs) returns)

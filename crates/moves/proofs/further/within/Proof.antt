@@ -6,12 +6,6 @@ use borrow.Author.Needs.{needs}
 use Rattle.moves.proofs.further.within.Statement.{statement}
 use Rattle.moves.proofs.further.within.Tie as tie
 
-shl-by : tie.Need-shl-by
-shl-by c = search needs
-
-side-requires : tie.Need-side-requires
-side-requires c κs = search needs
-
 shr-result : tie.Need-shr-result
 shr-result c = let s = c .before .before in by-few (s .args .word) (s .args .i) (s .pre .0)
 
@@ -35,4 +29,4 @@ returns-2 c =
     rw (by-is (a .word) (a .i) (s .pre .0), e) (within-one (a .word) (a .i) (s .pre .0) d)
 
 pub within-spec : {M : Type 1} → statement M
-within-spec = tie.close (tie.spec shl-by side-requires shr-result returns shl-result returns-2)
+within-spec = tie.close (tie.spec (λ c. search needs) (λ c κs. search needs) shr-result returns shl-result returns-2)

@@ -4,14 +4,8 @@ use borrow.Author.Needs.{needs}
 use Rattle.points.proofs.word.set_points.Statement.{statement}
 use Rattle.points.proofs.word.set_points.Tie as tie
 
-mul-result : tie.Need-mul-result
-mul-result c = search needs
-
-shared-slice-read-result : tie.Need-shared-slice-read-result
-shared-slice-read-result c = search needs
-
 returns : tie.Need-returns
-returns c = let a = c .before .args in set-word (a .set .now) (a .w) (a .m) (omega arith)
+returns c = let a = c .before .before .args in set-word (a .set .now) (a .s .word) (a .s .mask) (omega arith)
 
 pub set-points-spec : {M : Type 1} → statement M
-set-points-spec = tie.close (tie.spec mul-result shared-slice-read-result returns)
+set-points-spec = tie.close (tie.spec (λ c. search needs) (λ c. search needs) returns)

@@ -6,15 +6,6 @@ use Rattle.problem_text.proofs.Ends.{field-none, field-past, field-here
 use Rattle.problem_text.proofs.field.field_at.Statement.{statement}
 use Rattle.problem_text.proofs.field.field_at.Tie as tie
 
-number-at-requires : tie.Need-number-at-requires
-number-at-requires c κs = search needs
-
-enum-known-x : tie.Need-enum-known-x
-enum-known-x c = search needs
-
-enum-told : tie.Need-enum-told
-enum-told c = search needs
-
 returns : tie.Need-returns
 returns c = let a = c .before .before .before .before .args in (field-none (a .end) (a .text .now) (a .from) (sym (ap (numberOf (a .text .now)) (c .enum-told .given .1)) ∙ c .before .before .number-at .ensures .0), omega arith)
 
@@ -24,12 +15,6 @@ returns-2 c =
     let g = c .before .before .x .given in
     let q = sym (ap (numberOf (a .text .now)) (g .1)) ∙ c .before .before .before .before .number-at .ensures .0 in
     (field-past (a .end) (a .text .now) (a .from) (g .0 .0) (g .0 .1 .0) q (omega arith), omega arith)
-
-shared-slice-read-if2 : tie.Need-shared-slice-read-if2
-shared-slice-read-if2 c = search needs
-
-add-t11 : tie.Need-add-t11
-add-t11 c = search needs
 
 returns-3 : tie.Need-returns-3
 returns-3 c =
@@ -46,15 +31,4 @@ returns-4 c =
     (field-other (a .end) (a .text .now) (a .from) (g .0 .0) (g .0 .1 .0) q (omega arith) (c .if2 .left), omega arith)
 
 pub field-at-spec : {M : Type 1} → statement M
-field-at-spec =
-    tie.close
-    (tie.spec
-    number-at-requires
-    enum-known-x
-    enum-told
-    returns
-    returns-2
-    shared-slice-read-if2
-    add-t11
-    returns-3
-    returns-4)
+field-at-spec = tie.close (tie.spec (λ c κs. search needs) (λ c. search needs) (λ c. search needs) returns returns-2 (λ c. search needs) (λ c. search needs) returns-3 returns-4)

@@ -18,29 +18,14 @@ abbrev μ-loop : tie.MeasureT-loop
 returns : tie.Need-returns Inv-loop μ-loop
 returns c = let a = c .before .before .args in (digits-past (a .text .now) (a .from) (omega arith), omega arith)
 
-shared-slice-read-first : tie.Need-shared-slice-read-first Inv-loop μ-loop
-shared-slice-read-first c = search needs
-
-is-digit-requires : tie.Need-is-digit-requires Inv-loop μ-loop
-is-digit-requires c κs = search needs
-
 returns-2 : tie.Need-returns-2 Inv-loop μ-loop
 returns-2 c = let a = c .before .before .before .before .before .args in (digits-none (a .text .now) (a .from) (omega arith) (sym (c .before .is-digit .ensures) ∙ not-true _ (c .if2 .taken)), omega arith)
 
 value-of-requires : tie.Need-value-of-requires Inv-loop μ-loop
 value-of-requires c κs = sym (c .before .is-digit .ensures) ∙ not-false _ (c .if2 .left)
 
-add-i : tie.Need-add-i Inv-loop μ-loop
-add-i c = search needs
-
 loop-holds : tie.Need-loop-holds Inv-loop μ-loop
 loop-holds c = digits-start _ _ (omega arith) (sym (c .before .before .is-digit .ensures) ∙ not-false _ (c .before .if2 .left)) (c .value-of .ensures)
-
-shared-slice-read-c : tie.Need-shared-slice-read-c Inv-loop μ-loop
-shared-slice-read-c c = search needs
-
-is-digit-requires-2 : tie.Need-is-digit-requires-2 Inv-loop μ-loop
-is-digit-requires-2 c κs = search needs
 
 returns-3 : tie.Need-returns-3 Inv-loop μ-loop
 returns-3 c = let l = c .before .before .before .before .loop in (digits-other (l .inv) (omega arith) (sym (c .before .is-digit2 .ensures) ∙ not-true _ (c .if3 .taken)), l .inv .low)
@@ -48,22 +33,10 @@ returns-3 c = let l = c .before .before .before .before .loop in (digits-other (
 with-digit-requires : tie.Need-with-digit-requires Inv-loop μ-loop
 with-digit-requires c κs = sym (c .before .is-digit2 .ensures) ∙ not-false _ (c .if3 .left)
 
-enum-known-y : tie.Need-enum-known-y Inv-loop μ-loop
-enum-known-y c = search needs
-
-enum-told : tie.Need-enum-told Inv-loop μ-loop
-enum-told c = search needs
-
 returns-4 : tie.Need-returns-4 Inv-loop μ-loop
 returns-4 c =
     let d = sym (c .before .before .before .before .is-digit2 .ensures) ∙ not-false _ (c .before .before .before .if3 .left) in
     (digits-full (c .before .before .before .before .before .before .before .loop .inv) (omega arith) d (sym (c .before .before .with-digit .ensures) ∙ ap longerOf (c .enum-told .given .1)), omega arith)
-
-add-i-2 : tie.Need-add-i-2 Inv-loop μ-loop
-add-i-2 c = search needs
-
-loop-less : tie.Need-loop-less Inv-loop μ-loop
-loop-less c = search needs
 
 loop-again : tie.Need-loop-again Inv-loop μ-loop
 loop-again c =
@@ -74,26 +47,4 @@ returns-5 : tie.Need-returns-5 Inv-loop μ-loop
 returns-5 c = let l = c .before .loop in (digits-end (l .inv) (omega arith), l .inv .low)
 
 pub number-at-spec : {M : Type 1} → statement M
-number-at-spec =
-    tie.close
-    (tie.spec
-    Inv-loop
-    μ-loop
-    returns
-    shared-slice-read-first
-    is-digit-requires
-    returns-2
-    value-of-requires
-    add-i
-    loop-holds
-    shared-slice-read-c
-    is-digit-requires-2
-    returns-3
-    with-digit-requires
-    enum-known-y
-    enum-told
-    returns-4
-    add-i-2
-    loop-less
-    loop-again
-    returns-5)
+number-at-spec = tie.close (tie.spec Inv-loop μ-loop returns (λ c. search needs) (λ c κs. search needs) returns-2 value-of-requires (λ c. search needs) loop-holds (λ c. search needs) (λ c κs. search needs) returns-3 with-digit-requires (λ c. search needs) (λ c. search needs) returns-4 (λ c. search needs) (λ c. search needs) loop-again returns-5)

@@ -6,11 +6,8 @@ use Rattle.problem_text.proofs.number.value_of.Tie as tie
 sub-result : tie.Need-sub-result
 sub-result c = code-range (c .args .c) (c .pre) .0
 
-cast-result : tie.Need-cast-result
-cast-result c = search needs
-
 returns : tie.Need-returns
 returns c = search needs
 
 pub value-of-spec : {M : Type 1} → statement M
-value-of-spec = tie.close (tie.spec sub-result cast-result returns)
+value-of-spec = tie.close (tie.spec sub-result (λ c. search needs) returns)

@@ -13,29 +13,11 @@ use Rattle.problem_text.proofs.read.read_problem.Tie as tie
 returns : tie.Need-returns
 returns c = malformed (too-long (c .before .before .before .before .args .text .now) (omega arith))
 
-field-at-requires : tie.Need-field-at-requires
-field-at-requires c κs = search needs
-
-enum-known-n : tie.Need-enum-known-n
-enum-known-n c = search needs
-
-enum-told : tie.Need-enum-told
-enum-told c = search needs
-
 returns-2 : tie.Need-returns-2
 returns-2 c = malformed (no-inputs (c .before .before .before .before .before .before .before .args .text .now) (sym (ap (numberOf (c .before .before .before .before .before .before .before .args .text .now)) (c .enum-told .given .1)) ∙ c .before .before .field-at .ensures .0))
 
 table-into-requires : tie.Need-table-into-requires
 table-into-requires c κs = let s = c .before .before .before .before .before .before .before .before .before in (subst (λ (r : Number). nextOf r ≤ length (s .args .text .now)) (c .before .before .n .given .1) (c .before .before .before .before .field-at .ensures .1), omega (arith, s .pre .0))
-
-enum-known-k : tie.Need-enum-known-k
-enum-known-k c = search needs
-
-enum-told-2 : tie.Need-enum-told-2
-enum-told-2 c = search needs
-
-same-length : tie.Need-same-length
-same-length c = search needs
 
 returns-3 : tie.Need-returns-3
 returns-3 c =
@@ -43,9 +25,6 @@ returns-3 c =
     let g = c .before .before .before .before .before .before .before .n .given in
     let h = sym (ap (numberOf text) (g .1)) ∙ c .before .before .before .before .before .before .before .before .before .field-at .ensures .0 in
     malformed (no-table text (g .0 .0) (drop (g .0 .1 .0) text) h (sym (ap (tableOf text (g .0 .1 .0) (c .before .before .before .before .table-into .last .1 .1 .0)) (c .enum-told2 .given .1)) ∙ c .before .before .before .before .table-into .ensures .0))
-
-same-length-2 : tie.Need-same-length-2
-same-length-2 c = search needs
 
 returns-4 : tie.Need-returns-4
 returns-4 c =
@@ -83,18 +62,6 @@ transitions-into-requires c κs =
     let l = subst (λ (r : Count). afterTable (g .0 .1 .0) r ≤ length text) (k .1) (c .before .before .before .before .before .before .before .table-into .ensures .1) in
     (l, omega arith, c .before .before .before .before .before .before .before .before .before .before .before .before .before .before .before .before .before .pre .1)
 
-enum-known-t : tie.Need-enum-known-t
-enum-known-t c = search needs
-
-enum-told-3 : tie.Need-enum-told-3
-enum-told-3 c = search needs
-
-same-length-3 : tie.Need-same-length-3
-same-length-3 c = search needs
-
-same-length-4 : tie.Need-same-length-4
-same-length-4 c = search needs
-
 returns-5 : tie.Need-returns-5
 returns-5 c =
     let text = c .before .before .before .before .before .before .before .before .before .before .before .before .before .before .before .before .before .before .before .before .before .before .args .text .now in
@@ -105,15 +72,6 @@ returns-5 c =
     let t = sym (ap (tableOf text (g .0 .1 .0) table) (k .1)) ∙ c .before .before .before .before .before .before .before .before .before .before .before .before .table-into .ensures .0 in
     let cs = drop (g .0 .1 .0 + k .0 .0 + 1) text in
     malformed (other-lines text (g .0 .0) (drop (g .0 .1 .0) text) h (take (k .0 .0) table) cs t (lines-other (subst (Lines cs (c .before .before .before .before .transitions-into .last .1 .1 .0)) (c .enum-told3 .given .1) (c .before .before .before .before .transitions-into .ensures))))
-
-cast-t8 : tie.Need-cast-t8
-cast-t8 c = search needs
-
-same-length-5 : tie.Need-same-length-5
-same-length-5 c = search needs
-
-same-length-6 : tie.Need-same-length-6
-same-length-6 c = search needs
 
 returns-6 : tie.Need-returns-6
 returns-6 c =
@@ -129,30 +87,4 @@ returns-6 c =
     reading-whole text table (g .0 .0) (drop (g .0 .1 .0) text) h (k .0 .0) cs t (omega arith) (omega arith) (omega (arith, l, s .pre .0, c .before .before .before .before .before .before .before .before .before .before .before .before .before .table-into .kept .1 .1 .0)) (subst (Lines cs (c .before .before .before .before .before .transitions-into .last .1 .1 .0)) (c .before .t .given .1) (c .before .before .before .before .before .transitions-into .ensures))
 
 pub read-problem-spec : {M : Type 1} → statement M
-read-problem-spec =
-    tie.close
-    (tie.spec
-    returns
-    field-at-requires
-    enum-known-n
-    enum-told
-    returns-2
-    table-into-requires
-    enum-known-k
-    enum-told-2
-    same-length
-    returns-3
-    same-length-2
-    returns-4
-    add-transitions-into
-    add-transitions-into-2
-    transitions-into-requires
-    enum-known-t
-    enum-told-3
-    same-length-3
-    same-length-4
-    returns-5
-    cast-t8
-    same-length-5
-    same-length-6
-    returns-6)
+read-problem-spec = tie.close (tie.spec returns (λ c κs. search needs) (λ c. search needs) (λ c. search needs) returns-2 table-into-requires (λ c. search needs) (λ c. search needs) (λ c. search needs) returns-3 (λ c. search needs) returns-4 add-transitions-into add-transitions-into-2 transitions-into-requires (λ c. search needs) (λ c. search needs) (λ c. search needs) (λ c. search needs) returns-5 (λ c. search needs) (λ c. search needs) (λ c. search needs) returns-6)

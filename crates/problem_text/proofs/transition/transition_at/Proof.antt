@@ -9,28 +9,10 @@ use Rattle.problem_text.proofs.Transitions.{line-none, line-half, line-
 use Rattle.problem_text.proofs.transition.transition_at.Statement.{statement}
 use Rattle.problem_text.proofs.transition.transition_at.Tie as tie
 
-field-at-requires : tie.Need-field-at-requires
-field-at-requires c κs = search needs
-
-enum-known-a : tie.Need-enum-known-a
-enum-known-a c = search needs
-
-enum-told : tie.Need-enum-told
-enum-told c = search needs
-
 returns : tie.Need-returns
 returns c =
     let a = c .before .before .before .before .args in
     (line-none (drop (a .from) (a .text .now)) (sym (ap (numberOf (a .text .now)) (c .enum-told .given .1)) ∙ c .before .before .field-at .ensures .0), omega arith)
-
-field-at-requires-2 : tie.Need-field-at-requires-2
-field-at-requires-2 c κs = search needs
-
-enum-known-b : tie.Need-enum-known-b
-enum-known-b c = search needs
-
-enum-told-2 : tie.Need-enum-told-2
-enum-told-2 c = search needs
 
 returns-2 : tie.Need-returns-2
 returns-2 c =
@@ -51,15 +33,4 @@ returns-3 c =
     )
 
 pub transition-at-spec : {M : Type 1} → statement M
-transition-at-spec =
-    tie.close
-    (tie.spec
-    field-at-requires
-    enum-known-a
-    enum-told
-    returns
-    field-at-requires-2
-    enum-known-b
-    enum-told-2
-    returns-2
-    returns-3)
+transition-at-spec = tie.close (tie.spec (λ c κs. search needs) (λ c. search needs) (λ c. search needs) returns (λ c κs. search needs) (λ c. search needs) (λ c. search needs) returns-2 returns-3)

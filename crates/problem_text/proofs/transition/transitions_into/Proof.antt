@@ -18,32 +18,11 @@ abbrev μ-loop : tie.MeasureT-loop
 loop-holds : tie.Need-loop-holds Inv-loop μ-loop
 loop-holds c = listing-start _ _ _ (c .before .before .pre .0)
 
-transition-at-requires : tie.Need-transition-at-requires Inv-loop μ-loop
-transition-at-requires c κs = search needs
-
-enum-known-a : tie.Need-enum-known-a Inv-loop μ-loop
-enum-known-a c = search needs
-
-enum-told : tie.Need-enum-told Inv-loop μ-loop
-enum-told c = search needs
-
 same-length : tie.Need-same-length Inv-loop μ-loop
 same-length c = c .before .before .before .before .loop .inv .long
 
 returns : tie.Need-returns Inv-loop μ-loop
 returns c = listing-none (c .before .before .before .before .loop .inv) (omega arith) (sym (ap (lineOf (c .before .before .before .before .before .before .before .args .text .now)) (c .enum-told .given .1)) ∙ c .before .before .transition-at .ensures .0)
-
-mul-transitions : tie.Need-mul-transitions Inv-loop μ-loop
-mul-transitions c = search needs
-
-slice-write-transitions : tie.Need-slice-write-transitions Inv-loop μ-loop
-slice-write-transitions c = search needs
-
-add-transitions : tie.Need-add-transitions Inv-loop μ-loop
-add-transitions c = search needs
-
-mul-transitions-2 : tie.Need-mul-transitions-2 Inv-loop μ-loop
-mul-transitions-2 c = search needs
 
 slice-write-transitions-2 : tie.Need-slice-write-transitions-2 Inv-loop μ-loop
 slice-write-transitions-2 c =
@@ -54,9 +33,6 @@ slice-write-transitions-2 c =
     let n = subst (λ (r : Line). afterLine r ≤ length (s .args .text .now)) (g .1) (c .before .before .before .transition-at .ensures .1) in
     let f = listing-far (l .inv) (omega arith) e n in
     omega (arith, f, n, l .inv .few, l .inv .long, s .pre .1, s .pre .2, length-set (l .transitions) (l .k) (g .0 .0))
-
-add-k : tie.Need-add-k Inv-loop μ-loop
-add-k c = search needs
 
 loop-less : tie.Need-loop-less Inv-loop μ-loop
 loop-less c =
@@ -78,31 +54,8 @@ loop-again c =
     let f = listing-far (l .inv) (omega arith) e n in
     listing-on (l .inv) (omega arith) e n (omega (arith, f, n, l .inv .few, l .inv .long, s .pre .1, s .pre .2))
 
-same-length-2 : tie.Need-same-length-2 Inv-loop μ-loop
-same-length-2 c = search needs
-
 returns-2 : tie.Need-returns-2 Inv-loop μ-loop
 returns-2 c = let i = c .before .loop .inv in listing-end i (omega arith) (omega (arith, i .few, i .long, c .before .before .before .before .pre .1, c .before .before .before .before .pre .2))
 
 pub transitions-into-spec : {M : Type 1} → statement M
-transitions-into-spec =
-    tie.close
-    (tie.spec
-    Inv-loop
-    μ-loop
-    loop-holds
-    transition-at-requires
-    enum-known-a
-    enum-told
-    same-length
-    returns
-    mul-transitions
-    slice-write-transitions
-    add-transitions
-    mul-transitions-2
-    slice-write-transitions-2
-    add-k
-    loop-less
-    loop-again
-    same-length-2
-    returns-2)
+transitions-into-spec = tie.close (tie.spec Inv-loop μ-loop loop-holds (λ c κs. search needs) (λ c. search needs) (λ c. search needs) same-length returns (λ c. search needs) (λ c. search needs) (λ c. search needs) (λ c. search needs) slice-write-transitions-2 (λ c. search needs) loop-less loop-again (λ c. search needs) returns-2)

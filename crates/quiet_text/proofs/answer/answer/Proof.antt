@@ -8,14 +8,8 @@ use Rattle.quiet_text.proofs.answer.answer.Tie as tie
 returns : tie.Need-returns
 returns c = replied-short (omega arith) refl refl
 
-reply-requires : tie.Need-reply-requires
-reply-requires c κs = search needs
-
-same-length : tie.Need-same-length
-same-length c = search needs
-
 returns-2 : tie.Need-returns-2
 returns-2 c = search needs
 
 pub answer-spec : {M : Type 1} → statement M
-answer-spec = tie.close (tie.spec returns reply-requires same-length returns-2)
+answer-spec = tie.close (tie.spec returns (λ c κs. search needs) (λ c. search needs) returns-2)

@@ -5,11 +5,8 @@ use Rattle.hazard.specs.Refusal.{Refusal}
 use Rattle.refusal.proofs.checked.refused.Statement.{statement}
 use Rattle.refusal.proofs.checked.refused.Tie as tie
 
-refuse-requires : tie.Need-refuse-requires
-refuse-requires c κs = search needs
-
 returns : tie.Need-returns
 returns c = ap {B = Option Refusal} some (c .refuse .ensures)
 
 pub refused-spec : {M : Type 1} → statement M
-refused-spec = tie.close (tie.spec refuse-requires returns)
+refused-spec = tie.close (tie.spec (λ c κs. search needs) returns)

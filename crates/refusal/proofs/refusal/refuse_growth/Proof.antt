@@ -3,11 +3,8 @@ use borrow.Author.Needs.{needs}
 use Rattle.refusal.proofs.refusal.refuse_growth.Statement.{statement}
 use Rattle.refusal.proofs.refusal.refuse_growth.Tie as tie
 
-refusal-with-requires : tie.Need-refusal-with-requires
-refusal-with-requires c κs = search needs
-
 returns : tie.Need-returns
 returns c = c .refusal-with .ensures ∙ refl
 
 pub refuse-growth-spec : {M : Type 1} → statement M
-refuse-growth-spec = tie.close (tie.spec refusal-with-requires returns)
+refuse-growth-spec = tie.close (tie.spec (λ c κs. search needs) returns)

@@ -15,20 +15,8 @@ Inv-loop n columns c rows₀ words i₀ rows i = (i ≤ n) × Narrowing columns 
 abbrev μ-loop : tie.MeasureT-loop
 μ-loop n columns c rows₀ words i₀ rows i = n - i
 
-stride-requires : tie.Need-stride-requires Inv-loop μ-loop
-stride-requires c κs = search needs
-
 loop-holds : tie.Need-loop-holds Inv-loop μ-loop
 loop-holds c = (omega arith, narrowing-start _ _ _)
-
-partner-requires : tie.Need-partner-requires Inv-loop μ-loop
-partner-requires c κs = search needs
-
-digit-at-requires : tie.Need-digit-at-requires Inv-loop μ-loop
-digit-at-requires c κs = search needs
-
-run-of-requires : tie.Need-run-of-requires Inv-loop μ-loop
-run-of-requires c κs = search needs
 
 digit-at-requires-2 : tie.Need-digit-at-requires-2 Inv-loop μ-loop
 digit-at-requires-2 c κs =
@@ -76,9 +64,6 @@ loop-again c =
           (c .before .before .before .before .run-of2 .ensures ∙ ap₂ (λ (m d : ℕ). runOf m (q .result) d) w (c .before .before .before .before .before .digit-at2 .ensures .0)) (b .ensures),
     )
 
-same-length : tie.Need-same-length Inv-loop μ-loop
-same-length c = search needs
-
 returns : tie.Need-returns Inv-loop μ-loop
 returns c =
     let s = c .before .before .before .before .before in
@@ -87,21 +72,4 @@ returns c =
     rw e at (l .inv .1 .is)
 
 pub narrow-spec : {M : Type 1} → statement M
-narrow-spec =
-    tie.close
-    (tie.spec
-    Inv-loop
-    μ-loop
-    stride-requires
-    loop-holds
-    partner-requires
-    digit-at-requires
-    run-of-requires
-    digit-at-requires-2
-    run-of-requires-2
-    narrow-by-requires
-    add-i
-    loop-less
-    loop-again
-    same-length
-    returns)
+narrow-spec = tie.close (tie.spec Inv-loop μ-loop (λ c κs. search needs) loop-holds (λ c κs. search needs) (λ c κs. search needs) (λ c κs. search needs) digit-at-requires-2 run-of-requires-2 narrow-by-requires add-i loop-less loop-again (λ c. search needs) returns)

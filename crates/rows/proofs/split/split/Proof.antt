@@ -6,25 +6,10 @@ use Rattle.rows.proofs.split.split.Statement.{statement}
 use Rattle.rows.proofs.split.split.Tie as tie
 
 -- src/split.rt:42:5
-copy-into-requires : tie.Need-copy-into-requires
-copy-into-requires c κs = search needs
-
 -- src/split.rt:43:5
-narrow-requires : tie.Need-narrow-requires
-narrow-requires c κs = search needs
-
 -- src/split.rt:44:5
-remove-requires : tie.Need-remove-requires
-remove-requires c κs = search needs
-
 -- src/split.rt:38:1
-same-length : tie.Need-same-length
-same-length c = search needs
-
 -- src/split.rt:38:1
-same-length-2 : tie.Need-same-length-2
-same-length-2 c = search needs
-
 -- src/split.rt:38:1
 returns : tie.Need-returns
 returns c =
@@ -34,6 +19,4 @@ returns c =
     split-is (λ x. allowedTo (s .args .columns .now) x (s .args .c) (s .args .n)) (s .args .set .now) (k .last .1 .0) (n .last .1 .1 .1 .0) (c .before .before .remove .last .0) (k .kept .1 .0 ∙ s .pre .2) (n .kept .1 .1 .1 .0) (k .ensures) (n .ensures) (c .before .before .remove .ensures)
 
 pub split-spec : {M : Type 1} → statement M
-split-spec =
-    tie.close
-    (tie.spec copy-into-requires narrow-requires remove-requires same-length same-length-2 returns)
+split-spec = tie.close (tie.spec (λ c κs. search needs) (λ c κs. search needs) (λ c κs. search needs) (λ c. search needs) (λ c. search needs) returns)

@@ -20,20 +20,8 @@ abbrev μ-loop : tie.MeasureT-loop
 loop-holds : tie.Need-loop-holds Inv-loop μ-loop
 loop-holds c = scan-start _ _
 
-mul-if1 : tie.Need-mul-if1 Inv-loop μ-loop
-mul-if1 c = search needs
-
-shared-slice-read-if1 : tie.Need-shared-slice-read-if1 Inv-loop μ-loop
-shared-slice-read-if1 c = search needs
-
 returns : tie.Need-returns Inv-loop μ-loop
 returns c = ap found (scan-hit (c .before .before .before .loop .inv) (omega arith) (ap not (ne-eqb _ _ (c .if1 .taken))))
-
-add-b : tie.Need-add-b Inv-loop μ-loop
-add-b c = search needs
-
-loop-less : tie.Need-loop-less Inv-loop μ-loop
-loop-less c = search needs
 
 loop-again : tie.Need-loop-again Inv-loop μ-loop
 loop-again c = scan-miss (c .before .before .before .loop .inv) (omega arith) (ap not (eq-eqb _ _ (c .if1 .left)))
@@ -42,16 +30,4 @@ returns-2 : tie.Need-returns-2 Inv-loop μ-loop
 returns-2 c = ap found (scan-end (c .before .loop .inv) (omega arith))
 
 pub has-row-spec : {M : Type 1} → statement M
-has-row-spec =
-    tie.close
-    (tie.spec
-    Inv-loop
-    μ-loop
-    loop-holds
-    mul-if1
-    shared-slice-read-if1
-    returns
-    add-b
-    loop-less
-    loop-again
-    returns-2)
+has-row-spec = tie.close (tie.spec Inv-loop μ-loop loop-holds (λ c. search needs) (λ c. search needs) returns (λ c. search needs) (λ c. search needs) loop-again returns-2)

@@ -1,7 +1,7 @@
 use Prim.Native.Nat.{_-_}
 use lib.ListN.{length}
 use native.Mathlib.Omega.{arith}
-use Rattle.rows.proofs.Ones.{Filling, filling-start, filling-step}
+use Rattle.rows.proofs.Filling.{Filling, filling-start, filling-step}
 use borrow.Author.Needs.{needs}
 use Rattle.rows.proofs.whole.whole_into.Statement.{statement}
 use Rattle.rows.proofs.whole.whole_into.Tie as tie
@@ -14,18 +14,6 @@ abbrev μ-loop : tie.MeasureT-loop
 
 loop-holds : tie.Need-loop-holds Inv-loop μ-loop
 loop-holds c = filling-start _ _
-
-whole-word-requires : tie.Need-whole-word-requires Inv-loop μ-loop
-whole-word-requires c κs = omega (arith, c .before .loop .inv .long, c .before .before .before .pre)
-
-mul-out : tie.Need-mul-out Inv-loop μ-loop
-mul-out c = search needs
-
-slice-write-out : tie.Need-slice-write-out Inv-loop μ-loop
-slice-write-out c = search needs
-
-add-b : tie.Need-add-b Inv-loop μ-loop
-add-b c = search needs
 
 loop-less : tie.Need-loop-less Inv-loop μ-loop
 loop-less c = omega (arith, c .before .before .loop .inv .long)
@@ -40,17 +28,4 @@ returns : tie.Need-returns Inv-loop μ-loop
 returns c = λ k h. c .before .loop .inv .is k (omega (arith, c .before .loop .inv .long))
 
 pub whole-into-spec : {M : Type 1} → statement M
-whole-into-spec =
-    tie.close
-    (tie.spec
-    Inv-loop
-    μ-loop
-    loop-holds
-    whole-word-requires
-    mul-out
-    slice-write-out
-    add-b
-    loop-less
-    loop-again
-    same-length
-    returns)
+whole-into-spec = tie.close (tie.spec Inv-loop μ-loop loop-holds (λ c κs. search needs) (λ c. search needs) (λ c. search needs) (λ c. search needs) loop-less loop-again same-length returns)

@@ -12,15 +12,6 @@ abbrev μ-loop : tie.MeasureT-loop
 loop-holds : tie.Need-loop-holds Inv-loop μ-loop
 loop-holds c = tt
 
-losing-requires : tie.Need-losing-requires Inv-loop μ-loop
-losing-requires c κs = search needs
-
-add-i : tie.Need-add-i Inv-loop μ-loop
-add-i c = search needs
-
-loop-less : tie.Need-loop-less Inv-loop μ-loop
-loop-less c = search needs
-
 loop-again : tie.Need-loop-again Inv-loop μ-loop
 loop-again c = tt
 
@@ -28,6 +19,4 @@ returns : tie.Need-returns Inv-loop μ-loop
 returns c = search needs
 
 pub near-spec : {M : Type 1} → statement M
-near-spec =
-    tie.close
-    (tie.spec Inv-loop μ-loop loop-holds losing-requires add-i loop-less loop-again returns)
+near-spec = tie.close (tie.spec Inv-loop μ-loop loop-holds (λ c κs. search needs) (λ c. search needs) (λ c. search needs) loop-again returns)

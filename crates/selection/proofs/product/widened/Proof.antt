@@ -1,4 +1,4 @@
-use Prim.Native.Nat.{_-_, _<_}
+use Prim.Native.Nat.{_<_}
 use native.Mathlib.Omega.{arith}
 use lib.Count.{trailing-le}
 use Rattle.cube.specs.Mask.{cubeOf}
@@ -9,25 +9,13 @@ use Rattle.selection.proofs.product.widened.Statement.{statement}
 use Rattle.selection.proofs.product.widened.Tie as tie
 
 abbrev Inv-loop : tie.InvT-loop
-Inv-loop n off privileged legal required columns left i b p₀ tries₀ p tries = Stage n off privileged (cubeOf n p₀) p × (b < mostWords)
+Inv-loop n context required columns left i b p₀ tries₀ p tries = Stage n context (cubeOf n p₀) p × (b < mostWords)
 
 abbrev μ-loop : tie.MeasureT-loop
-μ-loop n off privileged legal required columns left i b p₀ tries₀ p tries = tries
-
-mul-tries : tie.Need-mul-tries Inv-loop μ-loop
-mul-tries c = search needs
-
-shared-slice-read-tries : tie.Need-shared-slice-read-tries Inv-loop μ-loop
-shared-slice-read-tries c = search needs
-
-near-requires : tie.Need-near-requires Inv-loop μ-loop
-near-requires c κs = search needs
+μ-loop n context required columns left i b p₀ tries₀ p tries = tries
 
 loop-holds : tie.Need-loop-holds Inv-loop μ-loop
-loop-holds c = let s = c .before .before .before .before .before .before .before .before in (stage-start (s .args .n) (s .args .off .now) (s .args .privileged .now) (s .pre .1 .1 .1) (s .pre .1 .1 .0), omega (arith, s .pre .1 .0 .0, s .pre .1 .0 .1))
-
-mul-k : tie.Need-mul-k Inv-loop μ-loop
-mul-k c = search needs
+loop-holds c = let s = c .before .before .before .before .before .before in (stage-start (s .args .n) (s .args .context .now) (s .pre .1 .1 .1) (s .pre .1 .1 .0), omega (arith, s .pre .1 .0 .0, s .pre .1 .0 .1))
 
 cast-k : tie.Need-cast-k Inv-loop μ-loop
 cast-k c = omega (arith, trailing-le 64 (c .before .loop .tries))
@@ -36,39 +24,19 @@ add-k : tie.Need-add-k Inv-loop μ-loop
 add-k c = record { fits = omega (arith, trailing-le 64 (c .before .loop .tries), c .before .loop .inv .1) }
 
 grown-over-requires : tie.Need-grown-over-requires Inv-loop μ-loop
-grown-over-requires c κs = let s = c .before .before .before .before .before .before .before .before .before .before in (s .pre .0, c .before .loop .inv .0 .fits)
-
-without-lowest-requires : tie.Need-without-lowest-requires Inv-loop μ-loop
-without-lowest-requires c κs = search needs
+grown-over-requires c κs = let s = c .before .before .before .before .before .before .before .before in (s .pre .0, c .before .loop .inv .0 .fits)
 
 loop-less : tie.Need-loop-less Inv-loop μ-loop
 loop-less c = c .without-lowest .ensures .1
 
 loop-again : tie.Need-loop-again Inv-loop μ-loop
-loop-again c = let s = c .before .before .before .before .before .before .before .before .before .before .before .before in (stage-step (s .args .n) (s .args .off .now) (s .args .privileged .now) (c .before .before .before .loop .inv .0) (c .before .grown-over .ensures), c .before .before .before .loop .inv .1)
+loop-again c = let s = c .before .before .before .before .before .before .before .before .before .before in (stage-step (s .args .n) (s .args .context .now) (c .before .before .before .loop .inv .0) (c .before .grown-over .ensures), c .before .before .before .loop .inv .1)
 
 expanded-requires : tie.Need-expanded-requires Inv-loop μ-loop
-expanded-requires c κs = let s = c .before .before .before .before .before .before .before .before .before .before in (s .pre .0 .0, (s .pre .0 .1, c .before .loop .inv .0 .fits))
+expanded-requires c κs = let s = c .before .before .before .before .before .before .before .before in (s .pre .0, c .before .loop .inv .0 .fits)
 
 returns : tie.Need-returns Inv-loop μ-loop
-returns c = let s = c .before .before .before .before .before .before .before .before .before .before .before in stage-end (s .args .n) (s .args .off .now) (s .args .privileged .now) (c .before .before .loop .inv .0) (c .expanded .ensures)
+returns c = let s = c .before .before .before .before .before .before .before .before .before in stage-end (s .args .n) (s .args .context .now) (c .before .before .loop .inv .0) (c .expanded .ensures)
 
 pub widened-spec : {M : Type 1} → statement M
-widened-spec =
-    tie.close
-    (tie.spec
-    Inv-loop
-    μ-loop
-    mul-tries
-    shared-slice-read-tries
-    near-requires
-    loop-holds
-    mul-k
-    cast-k
-    add-k
-    grown-over-requires
-    without-lowest-requires
-    loop-less
-    loop-again
-    expanded-requires
-    returns)
+widened-spec = tie.close (tie.spec Inv-loop μ-loop (λ c. search needs) (λ c. search needs) (λ c κs. search needs) loop-holds (λ c. search needs) cast-k add-k grown-over-requires (λ c κs. search needs) loop-less loop-again expanded-requires returns)

@@ -16,15 +16,6 @@ abbrev μ-loop : tie.MeasureT-loop
 loop-holds : tie.Need-loop-holds Inv-loop μ-loop
 loop-holds c = writing-start _ _ _
 
-mul-cube-in : tie.Need-mul-cube-in Inv-loop μ-loop
-mul-cube-in c = search needs
-
-shared-slice-read-cube-in : tie.Need-shared-slice-read-cube-in Inv-loop μ-loop
-shared-slice-read-cube-in c = search needs
-
-cube-in-requires : tie.Need-cube-in-requires Inv-loop μ-loop
-cube-in-requires c κs = search needs
-
 write-product-requires : tie.Need-write-product-requires Inv-loop μ-loop
 write-product-requires c κs =
     let s = c .before .before .before .before .before .before .before in
@@ -35,12 +26,6 @@ add-at : tie.Need-add-at Inv-loop μ-loop
 add-at c =
     let s = c .before .before .before .before .before .before .before .before .before .before in
     omega (arith, writing-room (c .before .before .before .before .before .before .before .loop .inv) (omega arith) (s .pre .2), s .good)
-
-add-j : tie.Need-add-j Inv-loop μ-loop
-add-j c = search needs
-
-loop-less : tie.Need-loop-less Inv-loop μ-loop
-loop-less c = search needs
 
 loop-again : tie.Need-loop-again Inv-loop μ-loop
 loop-again c =
@@ -56,19 +41,4 @@ returns : tie.Need-returns Inv-loop μ-loop
 returns c = writing-end (c .before .loop .inv) (omega arith)
 
 pub write-network-spec : {M : Type 1} → statement M
-write-network-spec =
-    tie.close
-    (tie.spec
-    Inv-loop
-    μ-loop
-    loop-holds
-    mul-cube-in
-    shared-slice-read-cube-in
-    cube-in-requires
-    write-product-requires
-    add-at
-    add-j
-    loop-less
-    loop-again
-    same-length
-    returns)
+write-network-spec = tie.close (tie.spec Inv-loop μ-loop loop-holds (λ c. search needs) (λ c. search needs) (λ c κs. search needs) write-product-requires add-at (λ c. search needs) (λ c. search needs) loop-again same-length returns)

@@ -5,12 +5,6 @@ use Rattle.writing.proofs.Writing.{wrote-byte, wrote-then, field-next}
 use Rattle.writing.proofs.put.put_field.Statement.{statement}
 use Rattle.writing.proofs.put.put_field.Tie as tie
 
-slice-write-out : tie.Need-slice-write-out
-slice-write-out c = search needs
-
-add-put-number : tie.Need-add-put-number
-add-put-number c = search needs
-
 put-number-requires : tie.Need-put-number-requires
 put-number-requires c κs = rw length-set (omega arith)
 
@@ -24,5 +18,4 @@ returns c =
     (w, field-next (a .x) w)
 
 pub put-field-spec : {M : Type 1} → statement M
-put-field-spec =
-    tie.close (tie.spec slice-write-out add-put-number put-number-requires same-length returns)
+put-field-spec = tie.close (tie.spec (λ c. search needs) (λ c. search needs) put-number-requires same-length returns)

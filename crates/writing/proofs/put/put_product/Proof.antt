@@ -18,45 +18,12 @@ abbrev μ-loop : tie.MeasureT-loop
 loop-holds : tie.Need-loop-holds Inv-loop μ-loop
 loop-holds c = (omega arith, writing-start _ _ _)
 
-shared-slice-read-cell-of : tie.Need-shared-slice-read-cell-of Inv-loop μ-loop
-shared-slice-read-cell-of c = search needs
-
-cell-of-requires : tie.Need-cell-of-requires Inv-loop μ-loop
-cell-of-requires c κs = search needs
-
-add-out : tie.Need-add-out Inv-loop μ-loop
-add-out c = search needs
-
-slice-write-out : tie.Need-slice-write-out Inv-loop μ-loop
-slice-write-out c = search needs
-
-add-i : tie.Need-add-i Inv-loop μ-loop
-add-i c = search needs
-
-loop-less : tie.Need-loop-less Inv-loop μ-loop
-loop-less c = search needs
-
 loop-again : tie.Need-loop-again Inv-loop μ-loop
 loop-again c =
     let s = c .before .before .before .before .before .before in
     let l = c .before .before .before .loop in
     let more : l .i < length (map cell (s .args .product .now)) = rw length-map (omega arith) in
     (omega arith, writing-step (l .inv .1) more (cell 0) (List·getD-map cell (s .args .product .now) (l .i) 0 ∙ sym (c .cell-of .ensures)))
-
-add-out-2 : tie.Need-add-out-2 Inv-loop μ-loop
-add-out-2 c = search needs
-
-slice-write-out-2 : tie.Need-slice-write-out-2 Inv-loop μ-loop
-slice-write-out-2 c = search needs
-
-add-result : tie.Need-add-result Inv-loop μ-loop
-add-result c = search needs
-
-add-result-2 : tie.Need-add-result-2 Inv-loop μ-loop
-add-result-2 c = search needs
-
-same-length : tie.Need-same-length Inv-loop μ-loop
-same-length c = search needs
 
 returns : tie.Need-returns Inv-loop μ-loop
 returns c =
@@ -66,22 +33,4 @@ returns c =
     wrote-then (writing-end (l .inv .1) all) (wrote-byte _ _ _)
 
 pub put-product-spec : {M : Type 1} → statement M
-put-product-spec =
-    tie.close
-    (tie.spec
-    Inv-loop
-    μ-loop
-    loop-holds
-    shared-slice-read-cell-of
-    cell-of-requires
-    add-out
-    slice-write-out
-    add-i
-    loop-less
-    loop-again
-    add-out-2
-    slice-write-out-2
-    add-result
-    add-result-2
-    same-length
-    returns)
+put-product-spec = tie.close (tie.spec Inv-loop μ-loop loop-holds (λ c. search needs) (λ c κs. search needs) (λ c. search needs) (λ c. search needs) (λ c. search needs) (λ c. search needs) loop-again (λ c. search needs) (λ c. search needs) (λ c. search needs) (λ c. search needs) (λ c. search needs) returns)

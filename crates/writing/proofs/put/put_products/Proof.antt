@@ -18,9 +18,6 @@ loop-holds c = printing-start _ _ _ _ _
 add-put-product : tie.Need-add-put-product Inv-loop μ-loop
 add-put-product c = omega (arith, printing-from (c .before .loop .inv) (omega arith) (c .before .before .before .before .pre .0))
 
-sub-put-product : tie.Need-sub-put-product Inv-loop μ-loop
-sub-put-product c = search needs
-
 part-put-product-start : tie.Need-part-put-product-start Inv-loop μ-loop
 part-put-product-start c = omega (arith, printing-from (c .before .loop .inv) (omega arith) (c .before .before .before .before .pre .0))
 
@@ -39,12 +36,6 @@ add-from c =
     let s = c .before .before .before .before .before .before .before .before .before in
     omega (arith, printing-from (c .before .before .before .before .before .before .loop .inv) (omega arith) (s .pre .0), s .good)
 
-add-j : tie.Need-add-j Inv-loop μ-loop
-add-j c = search needs
-
-loop-less : tie.Need-loop-less Inv-loop μ-loop
-loop-less c = search needs
-
 loop-again : tie.Need-loop-again Inv-loop μ-loop
 loop-again c =
     let s = c .before .before .before .before .before .before .before .before .before in
@@ -52,27 +43,8 @@ loop-again c =
     let e : l .from + s .args .n - l .from ≡ s .args .n = omega arith in
     printing-step (l .inv) (omega arith) (s .pre .0) (rw e at (c .before .before .put-product .ensures))
 
-same-length : tie.Need-same-length Inv-loop μ-loop
-same-length c = search needs
-
 returns : tie.Need-returns Inv-loop μ-loop
 returns c = printing-end (c .before .loop .inv) (omega arith)
 
 pub put-products-spec : {M : Type 1} → statement M
-put-products-spec =
-    tie.close
-    (tie.spec
-    Inv-loop
-    μ-loop
-    loop-holds
-    add-put-product
-    sub-put-product
-    part-put-product-start
-    part-put-product-end
-    put-product-requires
-    add-from
-    add-j
-    loop-less
-    loop-again
-    same-length
-    returns)
+put-products-spec = tie.close (tie.spec Inv-loop μ-loop loop-holds add-put-product (λ c. search needs) part-put-product-start part-put-product-end put-product-requires add-from (λ c. search needs) (λ c. search needs) loop-again (λ c. search needs) returns)

@@ -1,0 +1,3 @@
+pub mod PlaneWord
+pub mod Values
+pub mod Exchange

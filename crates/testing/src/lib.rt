@@ -1,0 +1,6 @@
+// What the test programs share.
+pub mod calls;
+pub mod count;
+pub mod marks;
+pub mod products;
+pub mod report;
