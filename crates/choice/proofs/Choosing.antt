@@ -2,7 +2,7 @@
 use mathlib.Core.Path.{_≡_, sym, ap, _∙_}
 use mathlib.Core.Bool.{Bool, false, not, cond, _&&_, _||_}
 use mathlib.Core.Logic.{_⊎_, inl, inr}
-use mathlib.Core.List.{List, [], _∷_, _++_}
+use mathlib.Core.List.{List, [], _∷_, _++_, map-append}
 use mathlib.Core.Option.{some}
 use Prim.Native.Nat.{ℕ, _+_, _*_, _≤_, _<_}
 use native.Mathlib.Numerals.{add-one}
@@ -21,7 +21,7 @@ use Rattle.cube.specs.PointSet.{inSet}
 use Rattle.choice.specs.First.{firstIn}
 use Rattle.choice.specs.Flag.{Flagged, Unflagged, Flagging}
 use Rattle.choice.specs.Keep.{Noted}
-use Rattle.choice.proofs.Firsts.{map-append, first-before, first-new, covered-last}
+use Rattle.choice.proofs.Firsts.{first-before, first-new, covered-last}
 use Rattle.choice.proofs.Flags.{flagged-start, taken-is, flag-is}
 
 pub record Choosing (P : ℕ → Type 0) (n : ℕ) (required firsts products : List ℕ) (flags : List Bool) (m i : ℕ) : Type 0 where

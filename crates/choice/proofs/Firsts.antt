@@ -4,36 +4,21 @@ use mathlib.Core.Bool.{Bool, true, false, _||_}
 use mathlib.Core.List.{List, [], _∷_, _++_, map}
 use mathlib.Core.Option.{Option, none, some, Option·some-injective}
 use Prim.Native.Nat.{ℕ, zero, suc, _+_, _≤_, _<_}
-use native.Mathlib.Nat.{not-suc-le-zero, le-of-suc-le-suc}
 use native.Mathlib.Omega.{arith}
 use lib.Dec.{T}
 use lib.ListN.{length, getD, take, length-take, length-append, List·getD-append}
-use lib.Seq.{take-suc, getD-take, take-append-seam, take-append-le, getD-append-seam}
+use lib.Seq.{getD-take, take-append-seam, take-append-le, getD-append-seam}
 use Rattle.hazard.specs.Cube.{Cube, inside}
 use Rattle.hazard.specs.Cover.{Network, productAt, covered}
 use Rattle.hazard.proofs.Search.{none-some, First, nowhere, lowest, first-is}
 use Rattle.hazard.proofs.Network.{covered-e, covered-i}
-use Rattle.cube.specs.Entry.{cubeIn, networkIn}
 use Rattle.choice.specs.First.{firstIn}
 
--- A map, part by part.
+-- A map of the first entries.
 pub map-take : {A B : Type 0} (f : A → B) (j : ℕ) (l : List A) → map f (take j l) ≡ take j (map f l)
 map-take f zero l = refl
 map-take f (suc j) [] = refl
 map-take f (suc j) (a ∷ l) = ap (λ m. f a ∷ m) (map-take f j l)
-
-pub map-append : {A B : Type 0} (f : A → B) (l m : List A) → map f (l ++ m) ≡ map f l ++ map f m
-map-append f [] m = refl
-map-append f (a ∷ l) m = ap (λ k. f a ∷ k) (map-append f l m)
-
-pub product-in : (n : ℕ) (ws : List ℕ) (j : ℕ) → j < length ws → productAt (networkIn n ws) j ≡ cubeIn n (getD ws j 0)
-product-in n [] j h = absurd (not-suc-le-zero h)
-product-in n (w ∷ ws) zero h = refl
-product-in n (w ∷ ws) (suc j) h = product-in n ws j (le-of-suc-le-suc h)
-
--- The products up to j, and product j.
-pub network-suc : (n : ℕ) (ws : List ℕ) (j : ℕ) → j < length ws → networkIn n (take (suc j) ws) ≡ networkIn n (take j ws) ++ (cubeIn n (getD ws j 0) ∷ [])
-network-suc n ws j h = ap (networkIn n) (take-suc ws j 0 h) ∙ map-append (cubeIn n) (take j ws) (getD ws j 0 ∷ [])
 
 module _ (net : Network) (c : Cube) where
   -- The first product contains the cube, and those before it do not.

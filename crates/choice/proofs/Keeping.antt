@@ -23,7 +23,8 @@ use Rattle.cube.specs.Entry.{requiredIn, cubeIn, networkIn}
 use Rattle.choice.specs.First.{firstIn}
 use Rattle.choice.specs.Flag.{Flagged}
 use Rattle.choice.specs.Keep.{neededIn, Noted, Kept}
-use Rattle.choice.proofs.Firsts.{map-take, network-suc, product-in, first-covered, covered-first, some-covered}
+use Rattle.cube.proofs.Networks.{product-in, network-suc}
+use Rattle.choice.proofs.Firsts.{map-take, first-covered, covered-first, some-covered}
 use Rattle.choice.proofs.Flags.{flagged-start}
 
 -- An entry of a list has a place, and what has a place is an entry.

@@ -2,7 +2,6 @@ pub mod Firsts
 pub mod Placing
 pub mod Flags
 pub mod Lending
-pub mod Covering
 pub mod Choosing
 pub mod Keeping
 pub mod Lowering

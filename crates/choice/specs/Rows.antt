@@ -11,10 +11,6 @@ use Rattle.blocks.specs.Blocks.{Blocks}
 abbrev pub Inside : ℕ → List ℕ → List ℕ → Type 0
 Inside n rows columns = Blocks (λ w c. inside (cubeIn n w) c) n rows columns
 
--- The columns tell which of the words' cubes contain a cube.
-abbrev pub Containing : ℕ → List ℕ → List ℕ → Type 0
-Containing n rows columns = Blocks (λ w c. inside c (cubeIn n w)) n rows columns
-
 -- Row i stands in word b of a set.
 abbrev pub inWord : ℕ → ℕ → ℕ → Bool
 inWord b word i = eqb (i / 64) b && eqb (bit word (i % 64)) 1

@@ -1,5 +1,4 @@
-// Choice: which products contain which required cubes, and which products can be dropped.
-pub mod cover;
+// Choice: the required cubes in a chosen product, and which products can be dropped.
 pub mod first;
 pub mod flag;
 pub mod keep;

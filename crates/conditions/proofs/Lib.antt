@@ -1,4 +1,3 @@
-pub mod Bytes
-pub mod Reading
+pub mod Covering
 pub mod Looks
 pub mod Judging

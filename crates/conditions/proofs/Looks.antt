@@ -7,7 +7,7 @@ use Rattle.hazard.specs.Cover.{productAt}
 use Rattle.cube.specs.Mask.{cubeOf, Stands}
 use Rattle.cube.specs.Entry.{cubeIn, networkIn}
 use Rattle.cube.specs.declared.mask.Cube.{Cube}
-use Rattle.choice.proofs.Firsts.{product-in}
+use Rattle.cube.proofs.Networks.{product-in}
 
 -- The masks read from word j stand for product j.
 pub product-read : (n : ℕ) (ws : List ℕ) (j : ℕ) {c : Cube} → j < length ws → Stands n c (cubeIn n (getD ws j 0)) → cubeOf n c ≡ productAt (networkIn n ws) j

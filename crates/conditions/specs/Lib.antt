@@ -1,3 +1,3 @@
-pub mod Network
+pub mod Rows
 pub mod Look
 pub mod Answer

@@ -1,4 +1,3 @@
-// Checks 11 and 12 of a network, its products as words, and the three conditions (a), (c), (b), each with its first failure.
-pub mod check;
+// The three conditions (a), (c), (b) on a network's products, each with its first failure.
+pub mod cover;
 pub mod fault;
-pub mod network;

@@ -10,3 +10,4 @@ pub mod WordMask
 pub mod Fields
 pub mod Sweep
 pub mod ByWords
+pub mod Networks

@@ -26,8 +26,8 @@ use Rattle.checks.specs.Problem.{Problem}
 use Rattle.refusal.proofs.Checks.{refuse-yes, refuse-no}
 use Rattle.selection.specs.declared.select.Selected.{Selected}
 use Rattle.selection.specs.Select.{Selects}
-use Rattle.selection.specs.Answer.{Writable, Answered}
-use Rattle.selection.proofs.Answering.{writable, refused-kept}
+use Rattle.minimiser.specs.Answer.{Writable, Answered}
+use Rattle.minimiser.proofs.Writing.{writable, refused-kept}
 
 -- The problem's sets are those of its context.
 module _ {n : ℕ} {ts w few : List ℕ} {k : ℕ} (p : Problem n (tableIn n w) ts w few k) where

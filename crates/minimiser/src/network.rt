@@ -7,12 +7,13 @@ ghost use Rattle.cube.specs.Entry.{requiredIn, CleanWord};
 ghost use Rattle.context.specs.Context.{offIn, privilegedOf};
 ghost use Rattle.legality.specs.Ready.{Ready};
 ghost use Rattle.checks.specs.Problem.{fewCubes};
-ghost use Rattle.selection.specs.Answer.{minimisedOf, Answered};
+ghost use Rattle.selection.specs.Answer.{minimisedOf};
+ghost use Rattle.minimiser.specs.Answer.{Answered};
+use crate::write::written;
 use checks::many::FEW;
 use hazard::limits::MOST_REQUIRED;
 use selection::minimised::Minimised;
 use selection::select::select;
-use selection::write::written;
 
 // At most 64 required cubes, in arrays of that size: an array is set to zero before it is used, and most problems are small.
 pub fn network_few(n: usize, context: &[u64], required: &[u64], cover: &mut [u8]) -> Minimised

@@ -21,7 +21,7 @@ use Rattle.hazard.proofs.Network.{covered-e}
 use Rattle.cube.specs.Entry.{requiredIn, cubeIn, networkIn}
 use Rattle.cube.proofs.Left.{Left, left-start, left-end, check-hit, check-miss}
 use Rattle.context.specs.Context.{offIn}
-use Rattle.choice.proofs.Firsts.{product-in}
+use Rattle.cube.proofs.Networks.{product-in}
 use Rattle.choice.proofs.Choosing.{Choosing, choosing-end}
 use Rattle.selection.specs.Choose.{blockingOf, PrimeWord, Chosen}
 use Rattle.selection.proofs.Products.{vs, wide, masks-digits}

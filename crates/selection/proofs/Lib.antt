@@ -1,5 +1,3 @@
 pub mod Products
 pub mod Choices
-pub mod Writing
 pub mod Selecting
-pub mod Answering

@@ -1,7 +1,6 @@
-// A product for a required cube, the forward choice with the first blocking cube, those kept, and the bytes written.
+// A product for a required cube, the forward choice with the first blocking cube, and those kept.
 pub mod choose;
 pub mod minimised;
 pub mod near;
 pub mod product;
 pub mod select;
-pub mod write;

@@ -16,7 +16,7 @@ use Rattle.cube.proofs.Word.{taken-clean}
 use Rattle.context.specs.Context.{offIn, privilegedOf, tableIn}
 use Rattle.context.proofs.Values.{off-table}
 use Rattle.checks.specs.Problem.{Problem}
-use Rattle.conditions.specs.Network.{Read}
+use Rattle.network_bytes.specs.Network.{Read}
 use Rattle.verifier.specs.Judge.{faultOf}
 
 -- The words that were read, handed on as a part from 0.

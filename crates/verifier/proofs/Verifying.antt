@@ -9,7 +9,7 @@ use Rattle.hazard.specs.Verdict.{Verdict, refused, products, networkChecks, fau
 use Rattle.hazard.proofs.Search.{firstOf-none, entries, firstOf-left, firstOf-right}
 use Rattle.hazard.proofs.Rules.{few-inputs}
 use Rattle.hazard.proofs.Verdict.{products-fit, verified, checked-well-formed}
-use Rattle.conditions.specs.Network.{Sound}
+use Rattle.network_bytes.specs.Network.{Sound}
 
 -- The verdict that a refusal, or none, leads to.
 abbrev judgement : ℕ → List ℕ → List ℕ → List ℕ → Option Refusal → Verdict

@@ -11,12 +11,12 @@ ghost use Rattle.context.specs.Context.{offIn, privilegedOf};
 ghost use Rattle.legality.specs.Ready.{Ready};
 ghost use Rattle.checks.specs.Problem.{fewCubes};
 ghost use Rattle.conditions.specs.Answer.{verdictOf};
-ghost use Rattle.conditions.specs.Network.{Sound};
+ghost use Rattle.network_bytes.specs.Network.{Sound};
 ghost use Rattle.verifier.specs.Judge.{faultOf};
 use checks::many::FEW;
 use conditions::fault::Verdict;
 use conditions::fault::first_fault;
-use conditions::network::read_network;
+use network_bytes::read::read_network;
 use hazard::limits::MOST_PRODUCTS;
 
 // The network's products are read as words into the lent room, and the conditions are tried on them.

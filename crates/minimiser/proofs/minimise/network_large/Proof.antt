@@ -11,7 +11,8 @@ use Rattle.cube.specs.Entry.{requiredIn}
 use Rattle.cube.proofs.Word.{taken-clean}
 use Rattle.context.specs.Context.{offIn, privilegedOf, tableIn}
 use Rattle.sets.proofs.Gather.{held-all}
-use Rattle.selection.specs.Answer.{minimisedOf, Answered}
+use Rattle.selection.specs.Answer.{minimisedOf}
+use Rattle.minimiser.specs.Answer.{Answered}
 use Rattle.minimiser.proofs.Answering.{part-few}
 use borrow.Author.Needs.{needs}
 use Rattle.minimiser.proofs.minimise.network_large.Statement.{statement}

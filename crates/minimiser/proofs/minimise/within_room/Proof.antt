@@ -7,7 +7,8 @@ use lib.ListN.{length}
 use Rattle.hazard.specs.Sets as sets
 use Rattle.cube.proofs.Word.{taken-clean}
 use Rattle.context.specs.Context.{offIn, privilegedOf, tableIn}
-use Rattle.selection.specs.Answer.{minimisedOf, Answered}
+use Rattle.selection.specs.Answer.{minimisedOf}
+use Rattle.minimiser.specs.Answer.{Answered}
 use Rattle.minimiser.proofs.Answering.{problem-answered, problem-few, part-few, room-declined, room-enough, promised, bytes-few}
 use borrow.Author.Needs.{needs}
 use Rattle.minimiser.proofs.minimise.within_room.Statement.{statement}

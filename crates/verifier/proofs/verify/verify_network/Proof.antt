@@ -6,7 +6,7 @@ use Rattle.hazard.specs.Verdict.{products}
 use Rattle.hazard.proofs.Rules.{few-inputs}
 use Rattle.context.specs.Context.{offIn, privilegedOf, tableIn}
 use Rattle.refusal.proofs.Checks.{passed, refused-by}
-use Rattle.conditions.specs.Network.{Sound}
+use Rattle.network_bytes.specs.Network.{Sound}
 use Rattle.verifier.specs.Judge.{faultOf}
 use Rattle.verifier.proofs.Judging.{problem-fault, problem-few}
 use Rattle.verifier.proofs.Verifying.{network-refused, network-sound, network-judged}
