@@ -1,8 +1,9 @@
 use mathlib.Core.Path.{subst}
+use Prim.Native.Nat.{_-_}
 use Rattle.selection.specs.Select.{Selects}
 use Rattle.minimiser.specs.Answer.{Writable}
 use Rattle.selection.specs.declared.select.Selected.the-variants.{Words}
-use Rattle.minimiser.proofs.Writing.{part-length, answered-refused, answered-written}
+use Rattle.minimiser.proofs.Writing.{written-few, written-room, answered-refused, answered-written}
 use borrow.Author.Needs.{needs}
 use Rattle.minimiser.proofs.write.written.Statement.{statement}
 use Rattle.minimiser.proofs.write.written.Tie as tie
@@ -28,7 +29,9 @@ write-network-requires : tie.Need-write-network-requires
 write-network-requires c κs =
     let s = c .before .before .before .before .before .before .before in
     let h = room (c .before .before .before) in
-    rw (part-length (s .args .products .now) (h .0) (h .1)) (s .pre .0, h .2, h .3)
+    let from = c .before .before .before .selected2 .given .0 .0 in
+    let to = c .before .before .before .selected2 .given .0 .1 .0 in
+    (s .pre .0, written-few (s .args .products .now) from (to - from) _ (h .2), written-room (s .args .n) (s .args .products .now) (s .args .cover .now) from (to - from) (h .3))
 
 sub-t10 : tie.Need-sub-t10
 sub-t10 c = search (needs, room (c .before .before .before .before .before .before))
