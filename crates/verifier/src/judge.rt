@@ -16,8 +16,8 @@ ghost use Rattle.verifier.specs.Judge.{faultOf};
 use checks::many::FEW;
 use conditions::fault::Verdict;
 use conditions::fault::first_fault;
-use network_bytes::read::read_network;
 use hazard::limits::MOST_PRODUCTS;
+use network_bytes::read::read_network;
 
 // The network's products are read as words into the lent room, and the conditions are tried on them.
 fn judge_with(

@@ -15,10 +15,10 @@ use checks::check::check;
 use checks::many::Counted;
 use checks::many::FEW;
 use checks::stored::store_required;
-use network_bytes::check::network_checks;
 use conditions::fault::Verdict;
 use context::places::WORDS;
 use hazard::limits::MOST_REQUIRED;
+use network_bytes::check::network_checks;
 use refusal::checked::Checked;
 
 // The verdict for a problem with so many required cubes that they are stored anew, in an array that has room for all.
