@@ -1,3 +1,4 @@
+pub mod Parts
 pub mod PlaneWord
 pub mod Values
 pub mod Exchange

@@ -7,8 +7,8 @@ use native.Mathlib.Nat.{not-suc-le-zero, le-of-suc-le-suc, pow-suc, zero-div, di
 use native.Mathlib.Omega.{arith}
 use native.Mathlib.Decide.{ℕ-discrete, decLt}
 use lib.Dec.{eqb}
-use lib.ListN.{length, getD, take, drop, set, length-set, length-drop, List·getD-eq-default}
-use lib.Seq.{length-take-le, getD-set-same, getD-set-other, getD-take, getD-drop}
+use lib.ListN.{length, getD, set, length-set, List·getD-eq-default}
+use lib.Seq.{getD-set-same, getD-set-other}
 use lib.Pow.{pow-mono}
 use borrow.Author.Tests.{lt-ltb, le-ltb}
 use Rattle.hazard.specs.Cube.{bit}
@@ -16,8 +16,9 @@ use Rattle.hazard.specs.Transition.{value, off}
 use Rattle.hazard.proofs.Point.{bit-zero, bit-suc}
 use Rattle.cube.specs.PointSet.{inSet}
 use Rattle.points.specs.PointWord.{WordOf}
-use Rattle.context.specs.Places.{zerosIn, onesIn}
+use Rattle.context.specs.Places.{words, zerosAt, onesAt, zerosIn, onesIn}
 use Rattle.context.specs.Planes.{valued, planeWord, Plane}
+use Rattle.context.proofs.Parts.{part-length, part-word}
 
 -- A test counts for at most one.
 pub one-few : (b : Bool) → cond b 1 0 ≤ 1
@@ -101,24 +102,28 @@ plane-is f v out h l words = record { long = l; is = λ x. go x (decLt x 1024) }
 
 -- A loop over the words of both planes.
 pub record Filled (f context : List ℕ) (w : ℕ) : Type 0 where
-  pub zeros· : (u : ℕ) → u < w → WordOf (valued f 0) u (getD context u 0)
-  pub ones· : (u : ℕ) → u < w → WordOf (valued f 1) u (getD context (16 + u) 0)
+  pub zeros· : (u : ℕ) → u < w → WordOf (valued f 0) u (getD context (zerosAt + u) 0)
+  pub ones· : (u : ℕ) → u < w → WordOf (valued f 1) u (getD context (onesAt + u) 0)
 
-pub filled-more : {f context : List ℕ} {w z o : ℕ} → Filled f context w → w < 16 → length context ≡ 157 → WordOf (valued f 0) w z → WordOf (valued f 1) w o → Filled f (set (set context w z) (16 + w) o) (w + 1)
+-- One word more of each plane.
+abbrev pub bothSet : List ℕ → ℕ → ℕ → ℕ → List ℕ
+bothSet context w z o = set (set context (zerosAt + w) z) (onesAt + w) o
+
+pub filled-more : {f context : List ℕ} {w z o : ℕ} → Filled f context w → w < 16 → length context ≡ words → WordOf (valued f 0) w z → WordOf (valued f 1) w o → Filled f (bothSet context w z o) (w + 1)
 filled-more {f} {context} {w} {z} {o} s few long p q = record { zeros· = λ u l. low u l (ℕ-discrete u w); ones· = λ u l. high u l (ℕ-discrete u w) }
   where
-    low : (u : ℕ) → u < w + 1 → Dec (u ≡ w) → WordOf (valued f 0) u (getD (set (set context w z) (16 + w) o) u 0)
-    low u l (yes e) = rw (getD-set-other (set context w z) (16 + w) u o 0 (λ i. omega arith), e, getD-set-same context w z 0 (omega (arith, long))) p
-    low u l (no e) = rw (getD-set-other (set context w z) (16 + w) u o 0 (λ i. omega arith), getD-set-other context w u z 0 e) (s .zeros· u (omega (arith, e)))
+    low : (u : ℕ) → u < w + 1 → Dec (u ≡ w) → WordOf (valued f 0) u (getD (bothSet context w z o) (zerosAt + u) 0)
+    low u l (yes e) = rw (getD-set-other (set context (zerosAt + w) z) (onesAt + w) (zerosAt + u) o 0 (λ i. omega arith), e, getD-set-same context (zerosAt + w) z 0 (omega (arith, long))) p
+    low u l (no e) = rw (getD-set-other (set context (zerosAt + w) z) (onesAt + w) (zerosAt + u) o 0 (λ i. omega arith), getD-set-other context (zerosAt + w) (zerosAt + u) z 0 (λ i. e (omega arith))) (s .zeros· u (omega (arith, e)))
 
-    high : (u : ℕ) → u < w + 1 → Dec (u ≡ w) → WordOf (valued f 1) u (getD (set (set context w z) (16 + w) o) (16 + u) 0)
-    high u l (yes e) = rw (e, getD-set-same (set context w z) (16 + w) o 0 (omega (arith, long, length-set context w z))) q
-    high u l (no e) = rw (getD-set-other (set context w z) (16 + w) (16 + u) o 0 (λ i. e (omega arith)), getD-set-other context w (16 + u) z 0 (λ i. omega arith)) (s .ones· u (omega (arith, e)))
+    high : (u : ℕ) → u < w + 1 → Dec (u ≡ w) → WordOf (valued f 1) u (getD (bothSet context w z o) (onesAt + u) 0)
+    high u l (yes e) = rw (e, getD-set-same (set context (zerosAt + w) z) (onesAt + w) o 0 (omega (arith, long, length-set context (zerosAt + w) z))) q
+    high u l (no e) = rw (getD-set-other (set context (zerosAt + w) z) (onesAt + w) (onesAt + u) o 0 (λ i. e (omega arith)), getD-set-other context (zerosAt + w) (onesAt + u) z 0 (λ i. omega arith)) (s .ones· u (omega (arith, e)))
 
-pub filled-planes : {f context : List ℕ} → length f ≤ 1024 → length context ≡ 157 → Filled f context 16 → Plane f 0 (zerosIn context) × Plane f 1 (onesIn context)
+pub filled-planes : {f context : List ℕ} → length f ≤ 1024 → length context ≡ words → Filled f context 16 → Plane f 0 (zerosIn context) × Plane f 1 (onesIn context)
 filled-planes {f} {context} h long s = (
-  plane-is f 0 (take 16 context) h (length-take-le 16 context (omega (arith, long))) (λ w l. rw (getD-take 16 context w 0 l) (s .zeros· w l)),
-  plane-is f 1 (take 16 (drop 16 context)) h (length-take-le 16 (drop 16 context) (omega (arith, long, length-drop 16 context))) (λ w l. rw (getD-take 16 (drop 16 context) w 0 l, getD-drop 16 context w 0) (s .ones· w l)),
+  plane-is f 0 (zerosIn context) h (part-length zerosAt 16 context (omega (arith, long))) (λ w l. rw (part-word zerosAt 16 context w l) (s .zeros· w l)),
+  plane-is f 1 (onesIn context) h (part-length onesAt 16 context (omega (arith, long))) (λ w l. rw (part-word onesAt 16 context w l) (s .ones· w l)),
 )
 
 -- The points with the value 0 are the OFF-set.

@@ -7,8 +7,8 @@ use native.Mathlib.Omega.{arith}
 use native.Mathlib.Decide.{decLt}
 use lib.Bits.{bitOr, bitXor}
 use lib.Dec.{T, eqb}
-use lib.ListN.{length, getD, drop, length-drop}
-use lib.Seq.{length-take-le, getD-take, getD-drop, ext-getD}
+use lib.ListN.{length, getD}
+use lib.Seq.{ext-getD}
 use borrow.Author.Tests.{eqb-true, ne-eqb}
 use Rattle.hazard.specs.Cube.{bit}
 use Rattle.hazard.specs.Transition.{value, off}
@@ -17,34 +17,28 @@ use Rattle.cube.specs.PointSet.{inSet}
 use Rattle.cube.proofs.Bits.{bit-case2}
 use Rattle.cube.proofs.WordMask.{or-bits, not-bit}
 use Rattle.points.proofs.Masked.{true-false}
-use Rattle.context.specs.Places.{words, zerosIn, onesIn}
+use Rattle.context.specs.Places.{words, zerosAt, onesAt, zerosIn, onesIn}
 use Rattle.context.specs.Planes.{valued, Plane}
 use Rattle.context.specs.Context.{offIn, valueBy, valuesFrom, valueAt, tableIn, Planes, DontCares}
+use Rattle.context.proofs.Parts.{part-length, part-word}
 use Rattle.context.proofs.PlaneWord.{valued-in, valued-out, plane-off}
 
 -- The word of the points that are in neither plane.
 abbrev pub neitherWord : List ℕ → ℕ → ℕ
-neitherWord w u = bitXor 18446744073709551615 (bitOr (getD w (0 + u) 0) (getD w (16 + u) 0))
+neitherWord w u = bitXor 18446744073709551615 (bitOr (getD w (zerosAt + u) 0) (getD w (onesAt + u) 0))
 
 neither-bit : (a b k : ℕ) → k < 64 → eqb (bit (bitXor 18446744073709551615 (bitOr a b)) k) 1 ≡ eqb (cond (eqb (bit a k) 1) 0 (cond (eqb (bit b k) 1) 1 2)) 2
 neither-bit a b k l =
     ap (λ (y : ℕ). eqb y 1) (not-bit (bitOr a b) k l ∙ ap (bitXor 1) (or-bits a b k))
     ∙ bit-case2 (λ x y. eqb (bitXor 1 (bitOr x y)) 1 ≡ eqb (cond (eqb x 1) 0 (cond (eqb y 1) 1 2)) 2) refl refl refl refl (a / 2 ^ k) (b / 2 ^ k)
 
--- The words of the planes.
-zero-word : (w : List ℕ) (u : ℕ) → u < 16 → getD (zerosIn w) u 0 ≡ getD w (0 + u) 0
-zero-word w u l = let e : 0 + u ≡ u = omega arith in getD-take 16 w u 0 l ∙ ap (λ (k : ℕ). getD w k 0) (sym e)
-
-pub one-word : (w : List ℕ) (u : ℕ) → u < 16 → getD (onesIn w) u 0 ≡ getD w (16 + u) 0
-one-word w u l = getD-take 16 (drop 16 w) u 0 l ∙ getD-drop 16 w u 0
-
 pub dont-cares : (w out : List ℕ) → length out ≡ 16 → ((u : ℕ) → u < 16 → getD out u 0 ≡ neitherWord w u) → DontCares w out
 dont-cares w out long h = record { long = long; is = λ x l. go x (omega arith) }
   where
     go : (x : ℕ) → x / 64 < 16 → inSet out x ≡ eqb (valueAt w x) 2
     go x l =
-        ap (λ (y : ℕ). eqb (bit y (x % 64)) 1) (h (x / 64) l) ∙ neither-bit (getD w (0 + x / 64) 0) (getD w (16 + x / 64) 0) (x % 64) (omega arith)
-        ∙ sym (ap₂ (λ (a b : ℕ). eqb (cond (eqb (bit a (x % 64)) 1) 0 (cond (eqb (bit b (x % 64)) 1) 1 2)) 2) (zero-word w (x / 64) l) (one-word w (x / 64) l))
+        ap (λ (y : ℕ). eqb (bit y (x % 64)) 1) (h (x / 64) l) ∙ neither-bit (getD w (zerosAt + x / 64) 0) (getD w (onesAt + x / 64) 0) (x % 64) (omega arith)
+        ∙ sym (ap₂ (λ (a b : ℕ). eqb (cond (eqb (bit a (x % 64)) 1) 0 (cond (eqb (bit b (x % 64)) 1) 1 2)) 2) (part-word zerosAt 16 w (x / 64) l) (part-word onesAt 16 w (x / 64) l))
 
 -- The table has the values of the points.
 module _ (zeros ones : List ℕ) where
@@ -93,10 +87,10 @@ module _ {n : ℕ} {w : List ℕ} (p : Planes n w) where
   none-past x l = either-false (inSet (zerosIn w) x) (inSet (onesIn w) x) (p .past x l)
 
   pub plane-zeros : Plane (tableIn n w) 0 (zerosIn w)
-  plane-zeros = plane-of 0 (zerosIn w) (length-take-le 16 w (omega (arith, p .long))) (λ x. zero-bit (inSet (zerosIn w) x) (inSet (onesIn w) x)) (λ x l. none-past x l .0)
+  plane-zeros = plane-of 0 (zerosIn w) (part-length zerosAt 16 w (omega (arith, p .long))) (λ x. zero-bit (inSet (zerosIn w) x) (inSet (onesIn w) x)) (λ x l. none-past x l .0)
 
   pub plane-ones : Plane (tableIn n w) 1 (onesIn w)
-  plane-ones = plane-of 1 (onesIn w) (length-take-le 16 (drop 16 w) (omega (arith, p .long, length-drop 16 w))) (λ x. one-bit (inSet (zerosIn w) x) (inSet (onesIn w) x) (p .apart x)) (λ x l. none-past x l .1)
+  plane-ones = plane-of 1 (onesIn w) (part-length onesAt 16 w (omega (arith, p .long))) (λ x. one-bit (inSet (zerosIn w) x) (inSet (onesIn w) x) (p .apart x)) (λ x l. none-past x l .1)
 
   pub off-table : offIn w ≡ off (tableIn n w)
   off-table = fun-ext (λ x. plane-zeros .is x ∙ plane-off (tableIn n w) x)

@@ -7,21 +7,21 @@ ghost use Rattle.context.specs.Places.{words, zerosIn, onesIn, privilege
 // The planes: the points with the value 0, and those with the value 1, 16 words each.
 pub const ZEROS: usize = 0;
 
-pub const ONES: usize = 16;
+pub const ONES: usize = ZEROS + 16;
 
 // The privileged cubes, as packed words: room for 64.
-pub const PRIVILEGED: usize = 32;
+pub const PRIVILEGED: usize = ONES + 16;
 
 // Their columns, 30 words each: of the cubes that a cube meets, and of the start points that it contains.
-pub const MEETS: usize = 96;
+pub const MEETS: usize = PRIVILEGED + 64;
 
-pub const STARTS: usize = 126;
+pub const STARTS: usize = MEETS + 30;
 
 // How many privileged cubes there are.
-pub const COUNT: usize = 156;
+pub const COUNT: usize = STARTS + 30;
 
 // How many words a context has.
-pub const WORDS: usize = 157;
+pub const WORDS: usize = COUNT + 1;
 
 // The parts.
 pub fn zeros(context: &[u64]) -> &[u64]

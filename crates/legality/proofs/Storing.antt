@@ -4,13 +4,13 @@ use mathlib.Core.Bool.{Bool}
 use mathlib.Core.List.{List}
 use Prim.Native.Nat.{ℕ, _+_, _≤_, _<_}
 use native.Mathlib.Omega.{arith}
-use lib.ListN.{length, getD, take, drop, set, length-set, length-drop}
-use lib.Seq.{length-take-le, getD-set-same, ext-getD}
+use lib.ListN.{length, getD, take, drop, set, length-set}
+use lib.Seq.{getD-set-same, ext-getD}
 use Rattle.hazard.specs.Cube as digits
 use Rattle.columns.specs.Relation.{relates}
 use Rattle.columns.specs.declared.relation.Relation.the-variants.{Meets, PointInside}
 use Rattle.blocks.specs.Blocks.{Blocks}
-use Rattle.context.specs.Places.{words, countIn, privilegedWords}
+use Rattle.context.specs.Places.{words, zerosAt, onesAt, privilegedAt, meetsAt, startsAt, countAt, countIn, privilegedWords}
 use Rattle.legality.specs.Ready.{Filled}
 use Rattle.legality.proofs.Placing.{placed, placed-length, placed-new, placed-same, set-part}
 
@@ -18,55 +18,54 @@ use Rattle.legality.proofs.Placing.{placed, placed-length, placed-new, 
 columns : {related : ℕ → digits.Cube → Bool} {n : ℕ} {rows rows′ part part′ : List ℕ} → part′ ≡ part → rows′ ≡ rows → Blocks related n rows part → Blocks related n rows′ part′
 columns e h b = rw (e, h) b
 
--- A part of a context has the length of what it replaces.
-pub part-size : (from k : ℕ) (l : List ℕ) → from + k ≤ length l → length (take k (drop from l)) ≡ k
-part-size from k l h = length-take-le k (drop from l) (omega (arith, h, length-drop from l))
-
 -- The context after each write.
 module _ (m k : ℕ) (part first second w : List ℕ) where
   abbrev one : List ℕ
-  one = placed 32 m part w
+  one = placed privilegedAt m part w
 
   abbrev two : List ℕ
-  two = placed 96 30 first one
+  two = placed meetsAt 30 first one
 
   abbrev three : List ℕ
-  three = placed 126 30 second two
+  three = placed startsAt 30 second two
+
+  abbrev four : List ℕ
+  four = set three countAt k
 
   module _ (whole : length w ≡ words) (all : k ≡ m) (few : m ≤ 64) (p : length part ≡ m) (f : length first ≡ 30) (s : length second ≡ 30) where
     pub long-one : length one ≡ words
-    long-one = placed-length 32 m part w p (omega (arith, whole, few)) ∙ whole
+    long-one = placed-length privilegedAt m part w p (omega (arith, whole, few)) ∙ whole
 
     pub long-two : length two ≡ words
-    long-two = placed-length 96 30 first one f (omega (arith, long-one)) ∙ long-one
+    long-two = placed-length meetsAt 30 first one f (omega (arith, long-one)) ∙ long-one
 
     long-three : length three ≡ words
-    long-three = placed-length 126 30 second two s (omega (arith, long-two)) ∙ long-two
+    long-three = placed-length startsAt 30 second two s (omega (arith, long-two)) ∙ long-two
 
-    pub stored-length : length (set three 156 k) ≡ length w
-    stored-length = length-set three 156 k ∙ long-three ∙ sym whole
+    pub stored-length : length four ≡ length w
+    stored-length = length-set three countAt k ∙ long-three ∙ sym whole
 
     -- A part that the later writes leave alone.
-    kept-three : (from j : ℕ) → from + j ≤ 156 → take j (drop from (set three 156 k)) ≡ take j (drop from three)
-    kept-three from j h = set-part three from j 156 k h
+    kept-three : (from j : ℕ) → from + j ≤ countAt → take j (drop from four) ≡ take j (drop from three)
+    kept-three from j h = set-part three from j countAt k h
 
-    kept-two : (from j : ℕ) → from + j ≤ 126 → take j (drop from (set three 156 k)) ≡ take j (drop from two)
-    kept-two from j h = kept-three from j (omega arith) ∙ placed-same 126 30 second two s (omega (arith, long-two)) from j (omega (arith, long-two)) (λ i a b c d. omega arith)
+    kept-two : (from j : ℕ) → from + j ≤ startsAt → take j (drop from four) ≡ take j (drop from two)
+    kept-two from j h = kept-three from j (omega arith) ∙ placed-same startsAt 30 second two s (omega (arith, long-two)) from j (omega (arith, long-two)) (λ i a b c d. omega arith)
 
-    kept-one : (from j : ℕ) → from + j ≤ 96 → take j (drop from (set three 156 k)) ≡ take j (drop from one)
-    kept-one from j h = kept-two from j (omega arith) ∙ placed-same 96 30 first one f (omega (arith, long-one)) from j (omega (arith, long-one)) (λ i a b c d. omega arith)
+    kept-one : (from j : ℕ) → from + j ≤ meetsAt → take j (drop from four) ≡ take j (drop from one)
+    kept-one from j h = kept-two from j (omega arith) ∙ placed-same meetsAt 30 first one f (omega (arith, long-one)) from j (omega (arith, long-one)) (λ i a b c d. omega arith)
 
-    kept : (from j : ℕ) → from + j ≤ 32 → take j (drop from (set three 156 k)) ≡ take j (drop from w)
-    kept from j h = kept-one from j (omega arith) ∙ placed-same 32 m part w p (omega (arith, whole, few)) from j (omega (arith, whole)) (λ i a b c d. omega arith)
+    kept : (from j : ℕ) → from + j ≤ privilegedAt → take j (drop from four) ≡ take j (drop from w)
+    kept from j h = kept-one from j (omega arith) ∙ placed-same privilegedAt m part w p (omega (arith, whole, few)) from j (omega (arith, whole)) (λ i a b c d. omega arith)
 
-    count : countIn (set three 156 k) ≡ m
-    count = getD-set-same three 156 k 0 (omega (arith, long-three)) ∙ all
+    count : countIn four ≡ m
+    count = getD-set-same three countAt k 0 (omega (arith, long-three)) ∙ all
 
-    cubes : privilegedWords (set three 156 k) ≡ part
-    cubes = ap (λ (j : ℕ). take j (drop 32 (set three 156 k))) count ∙ kept-one 32 m (omega (arith, few)) ∙ placed-new 32 m part w p (omega (arith, whole, few))
+    cubes : privilegedWords four ≡ part
+    cubes = ap (λ (j : ℕ). take j (drop privilegedAt four)) count ∙ kept-one privilegedAt m (omega (arith, few)) ∙ placed-new privilegedAt m part w p (omega (arith, whole, few))
 
     pub filled-is : {n : ℕ} {privileged : List ℕ} → n ≤ 10 → length privileged ≡ m → ((i : ℕ) → i < length privileged → getD part i 0 ≡ getD privileged i 0)
-        → Blocks (λ v c. relates Meets n c v) n privileged first → Blocks (λ v c. relates PointInside n c v) n privileged second → Filled n privileged w (set three 156 k)
+        → Blocks (λ v c. relates Meets n c v) n privileged first → Blocks (λ v c. relates PointInside n c v) n privileged second → Filled n privileged w four
     filled-is {n} {privileged} h l same b d =
         let e : part ≡ privileged = ext-getD 0 part privileged (p ∙ sym l) (λ i u. same i (omega (arith, u, p, l))) in
         record {
@@ -74,10 +73,10 @@ module _ (m k : ℕ) (part first second w : List ℕ) where
             inputs = h;
             long = stored-length ∙ whole;
             few = rw count few;
-            meets· = columns (kept-two 96 30 (omega arith) ∙ placed-new 96 30 first one f (omega (arith, long-one))) (cubes ∙ e) b;
-            starts· = columns (kept-three 126 30 (omega arith) ∙ placed-new 126 30 second two s (omega (arith, long-two))) (cubes ∙ e) d;
+            meets· = columns (kept-two meetsAt 30 (omega arith) ∙ placed-new meetsAt 30 first one f (omega (arith, long-one))) (cubes ∙ e) b;
+            starts· = columns (kept-three startsAt 30 (omega arith) ∙ placed-new startsAt 30 second two s (omega (arith, long-two))) (cubes ∙ e) d;
           };
           is = cubes ∙ e;
-          zeros· = kept 0 16 (omega arith);
-          ones· = kept 16 16 (omega arith);
+          zeros· = kept zerosAt 16 (omega arith);
+          ones· = kept onesAt 16 (omega arith);
         }

@@ -8,11 +8,11 @@ ghost use Rattle.context.specs.Places.{privilegedWords};
 ghost use Rattle.context.specs.Context.{privilegedOf};
 ghost use Rattle.legality.specs.Ready.{Ready, Rows};
 ghost use Rattle.legality.specs.Answer.{metOf};
+use blocks::word::run_of;
 use columns::whole::whole_word;
-use context::places::COUNT;
-use context::places::MEETS;
-use context::places::PRIVILEGED;
-use context::places::STARTS;
+use context::places::meets;
+use context::places::privileged;
+use context::places::starts;
 use cube::mask::Cube;
 use cube::mask::digit_at;
 
@@ -27,17 +27,21 @@ fn illegal_rows(n: usize, context: &[u64], c: Cube) -> u64
     requires { ⌜ Ready n (now context) ⌝ }
     ensures { λ r. ⌜ Rows (λ w. illegal (cubeOf n c) (privilegedIn n w)) (privilegedWords (now (context .entry))) r ⌝ }
 {
-    let all = whole_word(context[COUNT] as usize, 0);
-    let mut meets = all;
-    let mut holds = all;
+    let cubes = privileged(context);
+    let all = whole_word(cubes.len(), 0);
+    let meeting = meets(context);
+    let starting = starts(context);
+    let mut met = all;
+    let mut contained = all;
     let mut i = 0;
     while i < n {
-        let at = 3 * i + digit_at(c, i);
-        meets = meets & context[MEETS + at];
-        holds = holds & context[STARTS + at];
+        // 64 rows at most: one word in each run.
+        let at = run_of(1, i, digit_at(c, i));
+        met = met & meeting[at];
+        contained = contained & starting[at];
         i += 1;
     }
-    meets ^ (meets & holds)
+    met ^ (met & contained)
 }
 
 // The first privileged cube that the cube meets illegally: what growth and condition (c) ask.
@@ -50,5 +54,5 @@ pub fn first_illegal(n: usize, context: &[u64], c: Cube) -> Met
         return Met::Nothing;
     }
     let first = u64::trailing_zeros(rows) as usize;
-    Met::At(context[PRIVILEGED + first])
+    Met::At(privileged(context)[first])
 }

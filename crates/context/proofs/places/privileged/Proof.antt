@@ -2,7 +2,7 @@ use mathlib.Core.Path.{_≡_, ap}
 use Prim.Native.Nat.{ℕ, _+_, _-_}
 use native.Mathlib.Omega.{arith}
 use lib.ListN.{take, drop}
-use Rattle.context.specs.Places.{countIn}
+use Rattle.context.specs.Places.{privilegedAt, countIn}
 use borrow.Author.Needs.{needs}
 use Rattle.context.proofs.places.privileged.Statement.{statement}
 use Rattle.context.proofs.places.privileged.Tie as tie
@@ -10,8 +10,8 @@ use Rattle.context.proofs.places.privileged.Tie as tie
 returns : tie.Need-returns
 returns c =
     let w = c .before .before .args .context .now in
-    let e : 32 + countIn w - 32 ≡ countIn w = omega arith in
-    ap (λ (k : ℕ). take k (drop 32 w)) e
+    let e : privilegedAt + countIn w - privilegedAt ≡ countIn w = omega arith in
+    ap (λ (k : ℕ). take k (drop privilegedAt w)) e
 
 pub privileged-spec : {M : Type 1} → statement M
 privileged-spec = tie.close (tie.spec (λ c. search needs) (λ c. search needs) (λ c. search needs) (λ c. search needs) (λ c. search needs) returns)

@@ -1,15 +1,15 @@
 use mathlib.Core.Path.{_≡_, _∙_}
 use Prim.Native.Nat.{_+_, _-_, _≤_}
-use native.Mathlib.Nat.{zero-add}
 use native.Mathlib.Omega.{arith}
 use lib.ListN.{length, set, length-set}
+use Rattle.context.specs.Places.{words, zerosAt, onesAt}
 use Rattle.context.proofs.PlaneWord.{Filled, filled-more, filled-planes}
 use borrow.Author.Needs.{needs}
 use Rattle.context.proofs.planes.planes_into.Statement.{statement}
 use Rattle.context.proofs.planes.planes_into.Tie as tie
 
 abbrev Inv-loop : tie.InvT-loop
-Inv-loop table context₀ w₀ context w = (w ≤ 16) × ((length context ≡ 157) × Filled table context w)
+Inv-loop table context₀ w₀ context w = (w ≤ 16) × ((length context ≡ words) × Filled table context w)
 
 abbrev μ-loop : tie.MeasureT-loop
 μ-loop table context₀ w₀ context w = 16 - w
@@ -23,8 +23,7 @@ slice-write-context-2 c = simp length-set (omega (arith, c .before .before .loop
 loop-again : tie.Need-loop-again Inv-loop μ-loop
 loop-again c =
     let l = c .before .before .loop in
-    let e = zero-add (l .w) in
-    (omega arith, (length-set (set (l .context) (0 + l .w) (c .values-at .result .zeros)) (16 + l .w) (c .values-at .result .ones) ∙ length-set (l .context) (0 + l .w) (c .values-at .result .zeros) ∙ l .inv .1 .0, rw e (filled-more (l .inv .1 .1) (omega arith) (l .inv .1 .0) (c .values-at .ensures .0) (c .values-at .ensures .1))))
+    (omega arith, (length-set (set (l .context) (zerosAt + l .w) (c .values-at .result .zeros)) (onesAt + l .w) (c .values-at .result .ones) ∙ length-set (l .context) (zerosAt + l .w) (c .values-at .result .zeros) ∙ l .inv .1 .0, filled-more (l .inv .1 .1) (omega arith) (l .inv .1 .0) (c .values-at .ensures .0) (c .values-at .ensures .1)))
 
 returns : tie.Need-returns Inv-loop μ-loop
 returns c =

@@ -3,15 +3,16 @@ use mathlib.Core.List.{List}
 use Prim.Native.Nat.{ℕ}
 use native.Mathlib.Omega.{arith}
 use lib.ListN.{length}
-use lib.Seq.{length-take-le}
 use Rattle.cube.specs.PointSet.{inSet}
 use Rattle.points.specs.Walk.{lowestOn}
+use Rattle.context.specs.Places.{zerosAt}
+use Rattle.context.proofs.Parts.{part-length}
 use borrow.Author.Needs.{needs}
 use Rattle.context.proofs.value.lowest_zero.Statement.{statement}
 use Rattle.context.proofs.value.lowest_zero.Tie as tie
 
 lowest-on-requires : tie.Need-lowest-on-requires
-lowest-on-requires c κs = let s = c .before .before in (ap length (c .zeros .ensures) ∙ length-take-le 16 (s .args .context .now) (omega (arith, s .pre .0)), s .pre .1)
+lowest-on-requires c κs = let s = c .before .before in (ap length (c .zeros .ensures) ∙ part-length zerosAt 16 (s .args .context .now) (omega (arith, s .pre .0)), s .pre .1)
 
 returns : tie.Need-returns
 returns c = c .lowest-on .ensures ∙ ap (λ (l : List ℕ). lowestOn (c .before .before .before .args .k) (inSet l)) (c .before .zeros .ensures)

@@ -7,7 +7,8 @@ use lib.Dec.{eqb}
 use lib.ListN.{getD}
 use Rattle.hazard.specs.Cube.{bit}
 use Rattle.cube.proofs.Bits.{bit-case}
-use Rattle.context.proofs.Values.{one-word}
+use Rattle.context.specs.Places.{onesAt}
+use Rattle.context.proofs.Parts.{part-word}
 use borrow.Author.Needs.{needs}
 use Rattle.context.proofs.value.one_at.Statement.{statement}
 use Rattle.context.proofs.value.one_at.Tie as tie
@@ -15,9 +16,9 @@ use Rattle.context.proofs.value.one_at.Tie as tie
 returns : tie.Need-returns
 returns c =
     let a = c .before .args in
-    let y = getD (a .context .now) (16 + a .x / 64) 0 / 2 ^ (a .x % 64) in
+    let y = getD (a .context .now) (onesAt + a .x / 64) 0 / 2 ^ (a .x % 64) in
     let e : bitAnd y 1 ≡ y % 2 = and-mask y 1 in (
-      e ∙ bit-case (λ b. b ≡ cond (eqb b 1) 1 0) refl refl y ∙ ap (λ (z : ℕ). cond (eqb (bit z (a .x % 64)) 1) 1 0) (sym (one-word (a .context .now) (a .x / 64) (omega arith))),
+      e ∙ bit-case (λ b. b ≡ cond (eqb b 1) 1 0) refl refl y ∙ ap (λ (z : ℕ). cond (eqb (bit z (a .x % 64)) 1) 1 0) (sym (part-word onesAt 16 (a .context .now) (a .x / 64) (omega arith))),
       omega (arith, e),
     )
 
