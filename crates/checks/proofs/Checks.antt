@@ -1,18 +1,14 @@
 -- What the checks say, one after another, and what they leave of a problem.
 use mathlib.Core.Path.{_≡_, refl, sym, ap, subst, _∙_}
-use mathlib.Core.List.{List, [], _++_, map, List·Memᴰ, append-nil}
+use mathlib.Core.List.{List, _++_, map, append-nil}
 use mathlib.Core.Option.{Option, none, some}
-use Prim.Native.Nat.{ℕ, zero, suc, _+_, _*_, _/_, _%_, _^_, _<_}
-use native.Mathlib.Omega.{arith}
-use native.Mathlib.Decide.{ℕ-discrete, decLt}
+use Prim.Native.Nat.{ℕ, zero, suc, _/_, _%_, _^_}
 use lib.Dec.{eqb}
-use lib.ListN.{length, getD, take, replicate, List·getD-eq-default}
-use lib.Pow.{pow-pos}
+use lib.ListN.{length, getD, take, replicate}
 use Rattle.hazard.specs.Search.{firstOf}
 use Rattle.hazard.specs.Refusal as spec
 use Rattle.hazard.specs.Sets.{Required, required, privileged}
 use Rattle.hazard.proofs.Search.{firstOf-none, entries}
-use Rattle.hazard.proofs.Rules.{inputs-few, length-whole, bytes-few, list-few, ends-within}
 use Rattle.cube.specs.PointSet.{inSet}
 use Rattle.cube.proofs.WordMask.{no-bit}
 use Rattle.points.proofs.Members.{those-none}
@@ -26,35 +22,13 @@ use Rattle.sets.specs.declared.store.Corner.the-variants.{Label}
 use Rattle.sets.specs.Store.{requiredAt, singlePoints}
 use Rattle.refusal.specs.Answer.{refusalOf}
 use Rattle.refusal.specs.declared.refusal.Refusal.{Refusal}
-use Rattle.checks.specs.Problem.{Formed, Privileged, fewCubes, Problem}
-use Rattle.checks.specs.Answer.{formChecks, CountedBy, Answer}
+use Rattle.form.specs.Formed.{Formed}
+use Rattle.checks.specs.Problem.{Privileged, fewCubes, Problem}
+use Rattle.checks.specs.Answer.{CountedBy, Answer}
 use Rattle.checks.specs.declared.many.Counted.{Counted}
 use Rattle.checks.specs.declared.many.Counted.the-variants as counted
 
-module _ (n : ℕ) (f ts : List ℕ) where
-  -- What the checks of the form leave.
-  pub formed : firstOf (formChecks n f ts) ≡ none → Formed n f ts
-  formed e =
-      let list = list-few ts (passes (search entries depth 20)) in
-      record {
-        whole = length-whole n f (passes (search entries depth 20));
-        bytes = λ x l. bytes-few f (passes (search entries depth 20)) x;
-        listed = record { small = inputs-few n (passes (search entries depth 20)) .1; few = list .2; within = within (list .1) };
-      }
-    where
-      passes : {o : Option spec.Refusal} → List·Memᴰ o (formChecks n f ts) → o ≡ none
-      passes = firstOf-none (formChecks n f ts) e
-
-      within : length ts % 2 ≡ 0 → (i : ℕ) → getD ts i 0 < 2 ^ n
-      within even i = elim (decLt i (length ts)) [
-        | no l ↦ let d = List·getD-eq-default ts 0 {n = i} (omega arith) in omega (arith, pow-pos n)
-        | yes l ↦ elim (ℕ-discrete (i % 2) 0) [
-          | yes q ↦ let d : 2 * (i / 2) ≡ i = omega arith in rw d at (ends-within n ts (passes (search entries depth 20)) (i / 2) (omega arith) .0)
-          | no q ↦ let d : 2 * (i / 2) + 1 ≡ i = omega arith in rw d at (ends-within n ts (passes (search entries depth 20)) (i / 2) (omega arith) .1)
-        ]
-      ]
-
--- The planes of such a problem.
+-- The planes of a problem of the right form.
 module _ {n : ℕ} {f ts : List ℕ} (w : List ℕ) (g : Formed n f ts) (long : length w ≡ words) (z : Plane f 0 (zerosIn w)) (o : Plane f 1 (onesIn w)) where
   pub formed-planes : Planes n w
   formed-planes = planes-are n w z o (g .whole) (g .listed .small) long

@@ -1,6 +1,6 @@
 -- What the checks say, by the code's answers.
 use mathlib.Core.Path.{_≡_}
-use mathlib.Core.List.{List, [], _∷_, _++_}
+use mathlib.Core.List.{List}
 use mathlib.Core.Option.{Option, none, some}
 use Prim.Native.Nat.{ℕ}
 use Rattle.hazard.specs.Refusal as spec
@@ -12,10 +12,6 @@ use Rattle.refusal.specs.Answer.{refusalOf}
 use Rattle.checks.specs.Problem.{Problem}
 use Rattle.checks.specs.declared.many.Counted.{Counted}
 use Rattle.checks.specs.declared.many.Counted.the-variants.{Accepted, Refused}
-
--- The runs before the table's planes are made.
-abbrev pub formChecks : ℕ → (f ts : List ℕ) → List (Option spec.Refusal)
-formChecks n f ts = (spec.inputsCheck n ∷ []) ++ (spec.tableChecks n f ++ spec.listChecks n ts)
 
 -- What check 8 finds, as an answer: nothing, and then the required cubes are counted and stored; or the refusal.
 abbrev pub CountedBy : Option spec.Refusal → ℕ → (w ts before after : List ℕ) → Counted → Type 0

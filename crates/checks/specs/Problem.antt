@@ -1,21 +1,14 @@
 -- What the input rules leave of a problem.
 use mathlib.Core.Path.{_≡_}
 use mathlib.Core.List.{List, map}
-use Prim.Native.Nat.{ℕ, _^_, _≤_, _<_}
+use Prim.Native.Nat.{ℕ, _<_}
 use lib.ListN.{length, getD, take}
-use Rattle.hazard.specs.Transition.{value}
 use Rattle.hazard.specs.Sets as sets
 use Rattle.cube.specs.Entry.{requiredIn, CleanWord}
 use Rattle.context.specs.Places.{zerosIn, onesIn}
 use Rattle.context.specs.Context.{privilegedOf, tableIn}
 use Rattle.kinds.specs.Ready as kinds
 use Rattle.legality.specs.Ready as legality
-
--- Checks 1 to 5: a table of n inputs, with values 0 to 2, and a list of transitions between its points.
-pub record Formed (n : ℕ) (f ts : List ℕ) : Type 0 where
-  pub whole : length f ≡ 2 ^ n
-  pub bytes : (x : ℕ) → x < 2 ^ n → value f x ≤ 2
-  pub listed : kinds.Listed n ts
 
 -- The context has got the privileged cubes, and has the planes that it had.
 pub record Privileged (n : ℕ) (ts before after : List ℕ) : Type 0 where
@@ -28,8 +21,8 @@ pub record Privileged (n : ℕ) (ts before after : List ℕ) : Type 0 where
 abbrev pub fewCubes : ℕ
 fewCubes = 64
 
--- All of them: the words w are the context of the table f and the transitions ts, there are k required cubes, and the words `few` hold as many of
--- them as they can.
+-- The words w are the context of the table f and the transitions ts, there are k required cubes, and the words `few` hold as many of them as they
+-- can.
 pub record Problem (n : ℕ) (f ts w few : List ℕ) (k : ℕ) : Type 0 where
   pub ready : kinds.Ready n w ts
   pub legal : legality.Ready n w

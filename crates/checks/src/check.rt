@@ -5,35 +5,18 @@ ghost use lib.ListN.{length};
 ghost use Rattle.hazard.specs.Search.{firstOf};
 ghost use Rattle.hazard.specs.Refusal.{inputChecks, pointsChecks, manyCheck};
 ghost use Rattle.context.specs.Places.{words};
-ghost use Rattle.refusal.specs.Answer.{checkedOf};
-ghost use Rattle.checks.specs.Problem.{Formed, fewCubes};
-ghost use Rattle.checks.specs.Answer.{formChecks, Answer};
-use crate::inputs::check_inputs;
-use crate::list::list_checks;
+ghost use Rattle.form.specs.Formed.{Formed};
+ghost use Rattle.checks.specs.Problem.{fewCubes};
+ghost use Rattle.checks.specs.Answer.{Answer};
 use crate::many::Counted;
 use crate::many::FEW;
 use crate::many::check_many;
 use crate::stored::sets_into;
-use crate::table::table_checks;
 use context::places::WORDS;
 use context::planes::planes_into;
+use form::form::form_checks;
 use refusal::checked::Checked;
 use rules::run::points_checks;
-
-// Checks 1 to 5: the form of the problem.
-pub fn form_checks(n: usize, table: &[u8], transitions: &[u16]) -> Checked
-    ensures { λ r. ⌜ checkedOf r ≡ firstOf (formChecks n (now (table .entry)) (now (transitions .entry))) ⌝ }
-{
-    let inputs = check_inputs(n);
-    let Checked::Accepted = inputs else {
-        return inputs;
-    };
-    let whole = table_checks(n, table);
-    let Checked::Accepted = whole else {
-        return whole;
-    };
-    list_checks(n, transitions)
-}
 
 // Checks 6 to 8. The table is read, into the planes of the context; from there on the context says all of it.
 fn problem_into(

@@ -1,8 +1,9 @@
 use mathlib.Core.List.{[], _∷_, _++_}
 use Rattle.hazard.specs.Refusal.{pointsChecks, manyCheck}
 use Rattle.refusal.proofs.Checks.{passed, run-refused, run-passed}
-use Rattle.checks.specs.Answer.{formChecks}
-use Rattle.checks.proofs.Checks.{formed, answer-as}
+use Rattle.form.specs.Formed.{formChecks}
+use Rattle.form.proofs.Formed.{formed}
+use Rattle.checks.proofs.Checks.{answer-as}
 use borrow.Author.Needs.{needs}
 use Rattle.checks.proofs.check.check.Statement.{statement}
 use Rattle.checks.proofs.check.check.Tie as tie

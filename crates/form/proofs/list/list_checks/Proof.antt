@@ -4,8 +4,8 @@ use Rattle.hazard.specs.Refusal.{listCheck, endsCheck}
 use Rattle.hazard.proofs.Rules.{list-few}
 use Rattle.refusal.proofs.Checks.{passed, run-stays, run-passed, alone}
 use borrow.Author.Needs.{needs}
-use Rattle.checks.proofs.list.list_checks.Statement.{statement}
-use Rattle.checks.proofs.list.list_checks.Tie as tie
+use Rattle.form.proofs.list.list_checks.Statement.{statement}
+use Rattle.form.proofs.list.list_checks.Tie as tie
 
 returns : tie.Need-returns
 returns c =

@@ -10,8 +10,8 @@ use Rattle.hazard.specs.Transition.{start, end}
 use Rattle.hazard.specs.Refusal.{refusal}
 use Rattle.cube.proofs.Scan.{Scan, scan-start, scan-hit, scan-miss, scan-end}
 use borrow.Author.Needs.{needs}
-use Rattle.checks.proofs.list.check_ends.Statement.{statement}
-use Rattle.checks.proofs.list.check_ends.Tie as tie
+use Rattle.form.proofs.list.check_ends.Statement.{statement}
+use Rattle.form.proofs.list.check_ends.Tie as tie
 
 abbrev Inv-loop : tie.InvT-loop
 Inv-loop n transitions count t₀ t =

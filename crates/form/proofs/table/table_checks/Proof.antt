@@ -6,8 +6,8 @@ use Rattle.hazard.specs.Refusal.{lengthCheck, bytesCheck}
 use Rattle.hazard.proofs.Rules.{length-whole}
 use Rattle.refusal.proofs.Checks.{passed, run-stays, run-passed, alone}
 use borrow.Author.Needs.{needs}
-use Rattle.checks.proofs.table.table_checks.Statement.{statement}
-use Rattle.checks.proofs.table.table_checks.Tie as tie
+use Rattle.form.proofs.table.table_checks.Statement.{statement}
+use Rattle.form.proofs.table.table_checks.Tie as tie
 
 returns : tie.Need-returns
 returns c =

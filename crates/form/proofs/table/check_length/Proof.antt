@@ -8,8 +8,8 @@ use Rattle.hazard.proofs.Test.{tests}
 use Rattle.cube.proofs.Bits.{one-shl}
 use Rattle.refusal.proofs.Checks.{refuse-yes, refuse-no}
 use borrow.Author.Needs.{needs}
-use Rattle.checks.proofs.table.check_length.Statement.{statement}
-use Rattle.checks.proofs.table.check_length.Tie as tie
+use Rattle.form.proofs.table.check_length.Statement.{statement}
+use Rattle.form.proofs.table.check_length.Tie as tie
 
 returns : tie.Need-returns
 returns c =

@@ -9,8 +9,8 @@ use Rattle.hazard.specs.Transition.{count}
 use Rattle.hazard.proofs.Test.{or-l, or-r, eqb-of}
 use Rattle.refusal.proofs.Checks.{neither, refuse-yes, refuse-no}
 use borrow.Author.Needs.{needs}
-use Rattle.checks.proofs.list.check_list.Statement.{statement}
-use Rattle.checks.proofs.list.check_list.Tie as tie
+use Rattle.form.proofs.list.check_list.Statement.{statement}
+use Rattle.form.proofs.list.check_list.Tie as tie
 
 -- The three tests.
 abbrev empty : List ℕ → Bool
@@ -35,7 +35,7 @@ returns-2 c =
 returns-3 : tie.Need-returns-3
 returns-3 c =
     let l = c .before .before .before .before .before .args .transitions .now in
-    c .refused3 .ensures ∙ refuse-yes (empty l || (odd l || long l)) 4 (or-r (empty l) (odd l || long l) (or-r (odd l) (long l) (lt→ltb 64 (count l) (c .before .if3 .taken))))
+    c .refused3 .ensures ∙ refuse-yes (empty l || (odd l || long l)) 4 (or-r (empty l) (odd l || long l) (or-r (odd l) (long l) (lt→ltb 64 (count l) (omega arith))))
 
 returns-4 : tie.Need-returns-4
 returns-4 c =

@@ -10,8 +10,8 @@ use Rattle.hazard.specs.Transition.{value}
 use Rattle.hazard.specs.Refusal.{refusal}
 use Rattle.cube.proofs.Scan.{Scan, scan-start, scan-hit, scan-miss, scan-end, getD-any}
 use borrow.Author.Needs.{needs}
-use Rattle.checks.proofs.table.check_bytes.Statement.{statement}
-use Rattle.checks.proofs.table.check_bytes.Tie as tie
+use Rattle.form.proofs.table.check_bytes.Statement.{statement}
+use Rattle.form.proofs.table.check_bytes.Tie as tie
 
 abbrev Inv-loop : tie.InvT-loop
 Inv-loop table x₀ x = Scan (λ y. ltb 2 (value table y)) (length table) x (first (λ y. ltb 2 (value table y)) 0 (length table))

@@ -6,8 +6,8 @@ use borrow.Author.Tests.{le-leb, lt-leb}
 use Rattle.cube.proofs.Bits.{one-shl}
 use Rattle.refusal.proofs.Checks.{or-true, or-false}
 use borrow.Author.Needs.{needs}
-use Rattle.checks.proofs.list.is_outside.Statement.{statement}
-use Rattle.checks.proofs.list.is_outside.Tie as tie
+use Rattle.form.proofs.list.is_outside.Statement.{statement}
+use Rattle.form.proofs.list.is_outside.Tie as tie
 
 returns : tie.Need-returns
 returns c = let a = c .before .args in sym (or-true _ _ (le-leb (2 ^ (a .n)) (a .a) (omega (arith, one-shl (a .n) (omega arith)))))

@@ -1,16 +1,18 @@
 use mathlib.Core.Path.{_∙_, sym}
 use mathlib.Core.List.{[], _∷_, _++_}
+use lib.ListN.{drop}
 use Rattle.hazard.specs.Refusal.{inputsCheck, tableChecks, listChecks}
 use Rattle.hazard.proofs.Rules.{inputs-few}
 use Rattle.refusal.proofs.Checks.{passed, run-stays, run-passed, alone}
+use Rattle.form.specs.Formed.{formChecks}
 use borrow.Author.Needs.{needs}
-use Rattle.checks.proofs.check.form_checks.Statement.{statement}
-use Rattle.checks.proofs.check.form_checks.Tie as tie
+use Rattle.form.proofs.form.form_checks.Statement.{statement}
+use Rattle.form.proofs.form.form_checks.Tie as tie
 
 returns : tie.Need-returns
 returns c =
     let a = c .before .before .before .before .before .args in
-    run-stays (inputsCheck (a .n) ∷ []) (alone (c .before .before .check-inputs .ensures)) (tableChecks (a .n) (a .table .now) ++ listChecks (a .n) (a .transitions .now)) (c .enum-told2 .given .1)
+    run-stays (inputsCheck (a .n) ∷ []) (alone (c .before .before .check-inputs .ensures)) (drop 1 (formChecks (a .n) (a .table .now) (a .transitions .now))) (c .enum-told2 .given .1)
 
 table-checks-requires : tie.Need-table-checks-requires
 table-checks-requires c κs =

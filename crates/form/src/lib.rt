@@ -1,0 +1,5 @@
+// The form of a problem: checks 1 to 5, each a function of its own, and their runs.
+pub mod form;
+pub mod inputs;
+pub mod list;
+pub mod table;
