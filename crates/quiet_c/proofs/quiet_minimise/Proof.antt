@@ -2,7 +2,7 @@ use mathlib.Core.Path.{subst⁻¹}
 use denote.Ref.{now}
 use borrow.Author.Needs.{needs}
 use Rattle.hazard.specs.Minimal.{Promise}
-use Rattle.quiet_c.proofs.Exact.{promise-fits}
+use Rattle.packing.proofs.Exact.{promise-fits}
 use Rattle.quiet_c.proofs.quiet_minimise.Statement.{statement}
 use Rattle.quiet_c.proofs.quiet_minimise.Tie as tie
 

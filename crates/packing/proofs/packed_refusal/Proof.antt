@@ -1,8 +1,8 @@
 use borrow.Author.Needs.{needs}
 use Rattle.refusal.specs.Answer.{refusalOf}
-use Rattle.quiet_c.proofs.Exact.{refusal-exact}
-use Rattle.quiet_c.proofs.packed_refusal.Statement.{statement}
-use Rattle.quiet_c.proofs.packed_refusal.Tie as tie
+use Rattle.packing.proofs.Exact.{refusal-exact}
+use Rattle.packing.proofs.packed_refusal.Statement.{statement}
+use Rattle.packing.proofs.packed_refusal.Tie as tie
 
 returns : tie.Need-returns
 returns c =

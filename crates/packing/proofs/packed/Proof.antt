@@ -1,7 +1,7 @@
 use borrow.Author.Needs.{needs}
-use Rattle.quiet_c.proofs.Exact.{fields-exact}
-use Rattle.quiet_c.proofs.packed.Statement.{statement}
-use Rattle.quiet_c.proofs.packed.Tie as tie
+use Rattle.packing.proofs.Exact.{fields-exact}
+use Rattle.packing.proofs.packed.Statement.{statement}
+use Rattle.packing.proofs.packed.Tie as tie
 
 returns : tie.Need-returns
 returns c =

@@ -4,8 +4,8 @@ use borrow.Author.Needs.{needs}
 use Rattle.hazard.specs.Verdict.{fieldsOf}
 use Rattle.conditions.specs.Answer.{verdictOf}
 use Rattle.conditions.specs.declared.fault.Verdict.{Verdict}
-use Rattle.quiet_c.proofs.packed_verdict.Statement.{statement}
-use Rattle.quiet_c.proofs.packed_verdict.Tie as tie
+use Rattle.packing.proofs.packed_verdict.Statement.{statement}
+use Rattle.packing.proofs.packed_verdict.Tie as tie
 
 cast-packed : tie.Need-cast-packed
 cast-packed c =

@@ -4,10 +4,10 @@ use borrow.Author.Needs.{needs}
 use Rattle.refusal.specs.Answer.{refusalOf}
 use Rattle.selection.specs.Answer.{minimisedOf}
 use Rattle.selection.specs.declared.minimised.Minimised.{Minimised}
-use Rattle.quiet_c.specs.Packed.{RefusalFits, AnswerFits}
-use Rattle.quiet_c.proofs.Exact.{written-exact, declined-exact}
-use Rattle.quiet_c.proofs.packed_answer.Statement.{statement}
-use Rattle.quiet_c.proofs.packed_answer.Tie as tie
+use Rattle.packing.specs.Packed.{RefusalFits, AnswerFits}
+use Rattle.packing.proofs.Exact.{written-exact, declined-exact}
+use Rattle.packing.proofs.packed_answer.Statement.{statement}
+use Rattle.packing.proofs.packed_answer.Tie as tie
 
 mul-result : tie.Need-mul-result
 mul-result c =

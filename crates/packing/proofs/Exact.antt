@@ -14,7 +14,7 @@ use Rattle.hazard.specs.Verdict.{Fields, fieldsOf, Verdict, Verified}
 use Rattle.hazard.proofs.Test.{cond-no}
 use Rattle.hazard.proofs.Search.{firstOf-append}
 use Rattle.hazard.proofs.Bounds.{minimiser-bounds, minimal-few, verdict-bounds}
-use Rattle.quiet_c.specs.Packed.{unpackedRefusal, unpackedAnswer, unpackedVerdict, RefusalFits, AnswerFits}
+use Rattle.packing.specs.Packed.{unpackedRefusal, unpackedAnswer, unpackedVerdict, RefusalFits, AnswerFits}
 
 -- The low place and the rest of a number.
 low : (m x y : ℕ) → x < m → (x + m * y) % m ≡ x
