@@ -1,5 +1,6 @@
 -- The points that a walk comes to, and its steps.
 use mathlib.Core.Path.{_≡_, refl, sym, ap, ap₂, _∙_}
+use mathlib.Core.Logic.{_≢_}
 use mathlib.Core.Bool.{Bool, true, false, not, cond, _&&_}
 use Prim.Native.Nat.{ℕ, _+_, _-_, _*_, _/_, _%_, _^_, _≤_, _<_}
 use native.Mathlib.Nat.{mod-lt, mod-eq-of-lt, div-eq-of-lt, div-self, lt-of-le-of-lt, mul-le-mul-left, mul-one, zero-mul, zero-add}
@@ -8,7 +9,7 @@ use native.Mathlib.Omega.{arith}
 use lib.Bits.{bitAnd, bitXor, and-block, and-mask, and-mod, and-le-r, and-zero-l, xor-shr, xor-zero-r}
 use lib.Dec.{T, eqb, ltb}
 use lib.Pow.{pow-pos, pow-mono, split, high-ones, shr-mod, shr-mono}
-use borrow.Author.Tests.{lt-ltb, le-ltb, ne-eqb}
+use borrow.Author.Tests.{lt-ltb, le-ltb, eq-eqb, ne-eqb}
 use Rattle.hazard.specs.Cube.{bit, has}
 use Rattle.hazard.proofs.Test.{is, isnt}
 use Rattle.cube.specs.declared.mask.Cube.{Cube}
@@ -22,6 +23,13 @@ use Rattle.cube.proofs.WordMask.{no-bit, less-test}
 use Rattle.points.specs.declared.walk.Walk.{Walk}
 use Rattle.points.specs.declared.walk.Step.{Step}
 use Rattle.points.specs.Walk.{Ten, inWords, visits, Walks, bitsAt, At, Steps}
+
+-- The bits of a word: without the old ones where the old cube has points in it, else all.
+pub bits-old : (k : Walk) (w : ℕ) → differs (k .old) w ≡ 0 → bitXor (k .mask) (bitAnd (k .mask) (k .gone)) ≡ bitsAt k w
+bits-old k w e = sym (ap (λ (b : Bool). cond b (bitXor (k .mask) (bitAnd (k .mask) (k .gone))) (k .mask)) (eq-eqb (differs (k .old) w) 0 e))
+
+pub bits-new : (k : Walk) (w : ℕ) → differs (k .old) w ≢ 0 → k .mask ≡ bitsAt k w
+bits-new k w h = sym (ap (λ (b : Bool). cond b (bitXor (k .mask) (bitAnd (k .mask) (k .gone))) (k .mask)) (ne-eqb (differs (k .old) w) 0 h))
 
 -- A cube of n inputs, as one of ten with 0 for the others.
 module _ {n : ℕ} (few : n ≤ 10) {c : Cube} (s : Clean n c) where
