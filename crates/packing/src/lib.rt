@@ -54,4 +54,3 @@ pub fn packed_verdict(v: Verdict) -> u64
         Verdict::Uncovered(transition, label) => packed(4, 0, 0, transition, label),
     }
 }
-
