@@ -18,11 +18,11 @@ use Rattle.hazard.proofs.Test.{is, isnt, known, or-e}
 use Rattle.hazard.proofs.Choice.{covered-append-l, covered-snoc}
 use Rattle.cube.specs.Entry.{cubeIn, networkIn}
 use Rattle.cube.specs.PointSet.{inSet}
+use Rattle.flags.specs.Flag.{Flagged, Unflagged, Flagging}
+use Rattle.flags.proofs.Flags.{flagged-start, taken-is, flag-is}
 use Rattle.choice.specs.First.{firstIn}
-use Rattle.choice.specs.Flag.{Flagged, Unflagged, Flagging}
 use Rattle.choice.specs.Keep.{Noted}
 use Rattle.choice.proofs.Firsts.{first-before, first-new, covered-last}
-use Rattle.choice.proofs.Flags.{flagged-start, taken-is, flag-is}
 
 pub record Choosing (P : ℕ → Type 0) (n : ℕ) (required firsts products : List ℕ) (flags : List Bool) (m i : ℕ) : Type 0 where
   pub few : m ≤ i

@@ -20,12 +20,12 @@ use Rattle.hazard.proofs.Test.{tests, so, so-not, known}
 use Rattle.hazard.proofs.Search.{any-e, any-i}
 use Rattle.hazard.proofs.Choice.{Chosen, choice-start, choice-keep, choice-skip, choice-covers, choice-irredundant}
 use Rattle.cube.specs.Entry.{requiredIn, cubeIn, networkIn}
-use Rattle.choice.specs.First.{firstIn}
-use Rattle.choice.specs.Flag.{Flagged}
-use Rattle.choice.specs.Keep.{neededIn, Noted, Kept}
 use Rattle.cube.proofs.Networks.{product-in, network-suc}
+use Rattle.flags.specs.Flag.{Flagged}
+use Rattle.flags.proofs.Flags.{flagged-start}
+use Rattle.choice.specs.First.{firstIn}
+use Rattle.choice.specs.Keep.{neededIn, Noted, Kept}
 use Rattle.choice.proofs.Firsts.{map-take, first-covered, covered-first, some-covered}
-use Rattle.choice.proofs.Flags.{flagged-start}
 
 -- An entry of a list has a place, and what has a place is an entry.
 pub index-of : {w : ℕ} {ws : List ℕ} → List·Memᴰ w ws → (i : ℕ) × (i < length ws) × (getD ws i 0 ≡ w)

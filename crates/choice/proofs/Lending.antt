@@ -12,8 +12,8 @@ use Rattle.hazard.specs.Limits.{mostRequired}
 use Rattle.cube.specs.PointSet.{inSet}
 use Rattle.blocks.specs.Blocks.{stride}
 use Rattle.rows.specs.Sets.{mostWords, Fits}
-use Rattle.choice.specs.Flag.{Unflagged, Flagging}
-use Rattle.choice.proofs.Flags.{unflagged-start, unflagged-low, unflagged-next, taken-low}
+use Rattle.flags.specs.Flag.{Unflagged, Flagging}
+use Rattle.flags.proofs.Flags.{unflagged-start, unflagged-low, unflagged-next, taken-low}
 
 -- How many words a set of so many rows has.
 abbrev pub wordsOf : ℕ → ℕ

@@ -1,4 +1,2 @@
-pub mod Rows
 pub mod First
-pub mod Flag
 pub mod Keep

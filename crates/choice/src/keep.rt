@@ -5,10 +5,10 @@ ghost use lib.ListN.{length, getD};
 ghost use Rattle.hazard.specs.Limits.{mostRequired};
 ghost use Rattle.hazard.specs.Search.{found, first};
 ghost use Rattle.blocks.specs.Blocks.{stride};
+ghost use Rattle.flags.specs.Rows.{Inside};
 ghost use Rattle.choice.specs.Keep.{neededIn, Lowest, Noted, Kept};
-ghost use Rattle.choice.specs.Rows.{Inside};
-use crate::flag::flag_product;
 use cube::entry::cube_in;
+use flags::flag::flag_product;
 use hazard::limits::MOST_REQUIRED;
 use rows::whole::whole_into;
 

@@ -1,4 +1,2 @@
-// Choice: the required cubes in a chosen product, and which products can be dropped.
-pub mod first;
-pub mod flag;
+// Choice: which of the chosen products are kept, with the laws of the choice, forwards and backwards.
 pub mod keep;

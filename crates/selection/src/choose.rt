@@ -7,14 +7,14 @@ ghost use Rattle.cube.specs.Entry.{CleanWord};
 ghost use Rattle.context.specs.Context.{offIn, privilegedOf};
 ghost use Rattle.legality.specs.Ready.{Ready};
 ghost use Rattle.blocks.specs.Blocks.{stride};
-ghost use Rattle.choice.specs.Rows.{Inside};
+ghost use Rattle.flags.specs.Rows.{Inside};
 ghost use Rattle.selection.specs.Choose.{Choice};
 use crate::minimised::Minimised;
 use crate::product::Made;
 use crate::product::product_for;
-use choice::first::note;
-use choice::flag::flag_product;
 use cube::entry::pack;
+use flags::first::note;
+use flags::flag::flag_product;
 use hazard::limits::MOST_REQUIRED;
 use rows::whole::whole_into;
 

@@ -5,7 +5,7 @@ use lib.ListN.{length, getD}
 use borrow.Author.Needs.{needs}
 use Rattle.cube.specs.Mask.{cubeOf}
 use Rattle.cube.specs.Entry.{cubeIn}
-use Rattle.choice.proofs.Flags.{flag-is, product-test}
+use Rattle.flags.proofs.Flags.{flag-is, product-test}
 use Rattle.choice.proofs.Lending.{Lent, lent-start, lent-low, lent-room, lent-wide, lent-fits, lent-same, lent-set, lent-rows, lent-next}
 use Rattle.choice.proofs.Lowering.{noted-low}
 use Rattle.choice.proofs.Keeping.{Keeping, keeping-start, keeping-turn, keeping-skip, keeping-keep, keeping-end}

@@ -9,8 +9,8 @@ use Rattle.hazard.proofs.Test.{so-not, sure}
 use Rattle.cube.specs.Mask.{cubeOf}
 use Rattle.cube.specs.Entry.{cubeIn}
 use Rattle.context.specs.Context.{offIn, privilegedOf}
+use Rattle.flags.proofs.Flags.{product-test}
 use Rattle.choice.proofs.Choosing.{choosing-start, choosing-skip, choosing-add}
-use Rattle.choice.proofs.Flags.{product-test}
 use Rattle.choice.proofs.Lending.{Lent, lent-start, lent-low, lent-room, lent-wide, lent-fits, lent-same, lent-set, lent-rows, lent-next, lent-took, took-few, took-low}
 use Rattle.selection.specs.Product.{MadeFor}
 use Rattle.selection.specs.Choose.{PrimeWord}

@@ -2,10 +2,10 @@ use mathlib.Core.Bool.{true, false}
 use Prim.Native.Nat.{_-_}
 use lib.ListN.{length}
 use native.Mathlib.Omega.{arith}
-use Rattle.choice.proofs.Placing.{Placed, placed-start, placed-word, placed-step, placed-end}
+use Rattle.flags.proofs.Placing.{Placed, placed-start, placed-word, placed-step, placed-end}
 use borrow.Author.Needs.{needs}
-use Rattle.choice.proofs.flag.flag.Statement.{statement}
-use Rattle.choice.proofs.flag.flag.Tie as tie
+use Rattle.flags.proofs.flag.flag.Statement.{statement}
+use Rattle.flags.proofs.flag.flag.Tie as tie
 
 abbrev Inv-loop : tie.InvT-loop
 Inv-loop flags₀ set b₀ flags b = Placed false set true flags₀ flags b

@@ -6,7 +6,7 @@ ghost use lib.Dec.{T};
 ghost use lib.ListN.{length, getD};
 ghost use Rattle.cube.specs.PointSet.{inSet};
 ghost use Rattle.rows.specs.Sets.{mostWords};
-ghost use Rattle.choice.specs.Rows.{inWord};
+ghost use Rattle.flags.specs.Rows.{inWord};
 use rows::member::without_lowest;
 
 // Product j is noted for the rows of word b of a set.

@@ -16,7 +16,7 @@ use Rattle.hazard.proofs.Test.{T-and, is, isnt, eqb-of, bool-ext}
 use Rattle.cube.specs.PointSet.{inSet}
 use Rattle.cube.proofs.WordMask.{no-bit}
 use Rattle.rows.proofs.Members.{lowest-few, lowest-set}
-use Rattle.choice.specs.Rows.{inWord}
+use Rattle.flags.specs.Rows.{inWord}
 
 -- No row is past a set's words.
 pub past : (set : List ℕ) (i : ℕ) → 64 * length set ≤ i → inSet set i ≡ false

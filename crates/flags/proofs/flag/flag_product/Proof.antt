@@ -1,8 +1,8 @@
-use Rattle.choice.proofs.Flags.{taken-low}
+use Rattle.flags.proofs.Flags.{taken-low}
 use native.Mathlib.Omega.{arith}
 use borrow.Author.Needs.{needs}
-use Rattle.choice.proofs.flag.flag_product.Statement.{statement}
-use Rattle.choice.proofs.flag.flag_product.Tie as tie
+use Rattle.flags.proofs.flag.flag_product.Statement.{statement}
+use Rattle.flags.proofs.flag.flag_product.Tie as tie
 
 flag-requires : tie.Need-flag-requires
 flag-requires c κs =

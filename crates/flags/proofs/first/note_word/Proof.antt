@@ -1,9 +1,9 @@
 use native.Mathlib.Omega.{arith}
 use lib.Count.{trailing-le}
-use Rattle.choice.proofs.Placing.{Placing, placing-start, placing-at, placing-step, placing-end}
+use Rattle.flags.proofs.Placing.{Placing, placing-start, placing-at, placing-step, placing-end}
 use borrow.Author.Needs.{needs}
-use Rattle.choice.proofs.first.note_word.Statement.{statement}
-use Rattle.choice.proofs.first.note_word.Tie as tie
+use Rattle.flags.proofs.first.note_word.Statement.{statement}
+use Rattle.flags.proofs.first.note_word.Tie as tie
 
 abbrev Inv-loop : tie.InvT-loop
 Inv-loop firsts₀ b word j left₀ firsts left = Placing 0 b word j firsts₀ firsts left
@@ -24,7 +24,7 @@ mul-firsts-2 : tie.Need-mul-firsts-2 Inv-loop μ-loop
 mul-firsts-2 c = record { fits = omega (arith, trailing-le 64 (c .before .loop .left), c .before .before .before .pre .0) }
 
 slice-write-firsts : tie.Need-slice-write-firsts Inv-loop μ-loop
-slice-write-firsts c = placing-at (c .before .loop .inv) (c .loop-test .taken) (c .before .before .before .pre .1)
+slice-write-firsts c = omega (arith, placing-at (c .before .loop .inv) (c .loop-test .taken) (c .before .before .before .pre .1))
 
 loop-less : tie.Need-loop-less Inv-loop μ-loop
 loop-less c = c .without-lowest .ensures .1

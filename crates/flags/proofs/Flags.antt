@@ -15,9 +15,9 @@ use Rattle.cube.specs.PointSet.{inSet}
 use Rattle.cube.specs.declared.mask.Cube as masks
 use Rattle.blocks.specs.Blocks.{allowedTo}
 use Rattle.rows.specs.Sets.{Split}
-use Rattle.choice.specs.Rows.{Inside}
-use Rattle.choice.specs.Flag.{Flagged, Unflagged, Flagging}
-use Rattle.choice.proofs.Placing.{past}
+use Rattle.flags.specs.Rows.{Inside}
+use Rattle.flags.specs.Flag.{Flagged, Unflagged, Flagging}
+use Rattle.flags.proofs.Placing.{past}
 
 -- At first no flag is set,
 no-flag : (size i : ℕ) → getD (replicate size false) i false ≡ false

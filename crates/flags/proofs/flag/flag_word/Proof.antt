@@ -1,10 +1,10 @@
 use mathlib.Core.Bool.{true, false}
 use native.Mathlib.Omega.{arith}
 use lib.Count.{trailing-le}
-use Rattle.choice.proofs.Placing.{Placing, placing-start, placing-at, placing-step, placing-end}
+use Rattle.flags.proofs.Placing.{Placing, placing-start, placing-at, placing-step, placing-end}
 use borrow.Author.Needs.{needs}
-use Rattle.choice.proofs.flag.flag_word.Statement.{statement}
-use Rattle.choice.proofs.flag.flag_word.Tie as tie
+use Rattle.flags.proofs.flag.flag_word.Statement.{statement}
+use Rattle.flags.proofs.flag.flag_word.Tie as tie
 
 abbrev Inv-loop : tie.InvT-loop
 Inv-loop flags₀ b word left₀ flags left = Placing false b word true flags₀ flags left

@@ -1,10 +1,10 @@
 use Prim.Native.Nat.{_-_}
 use lib.ListN.{length}
 use native.Mathlib.Omega.{arith}
-use Rattle.choice.proofs.Placing.{Placed, placed-start, placed-word, placed-step, placed-end}
+use Rattle.flags.proofs.Placing.{Placed, placed-start, placed-word, placed-step, placed-end}
 use borrow.Author.Needs.{needs}
-use Rattle.choice.proofs.first.note.Statement.{statement}
-use Rattle.choice.proofs.first.note.Tie as tie
+use Rattle.flags.proofs.first.note.Statement.{statement}
+use Rattle.flags.proofs.first.note.Tie as tie
 
 abbrev Inv-loop : tie.InvT-loop
 Inv-loop firsts₀ set j b₀ firsts b = Placed 0 set j firsts₀ firsts b
