@@ -18,8 +18,9 @@ use Rattle.context.specs.Context.{tableIn, Planes}
 use Rattle.context.proofs.Values.{table-is, planes-are, planes-same, table-same}
 use Rattle.kinds.specs.Ready.{Ready}
 use Rattle.rules.proofs.Ready.{defined-ready}
-use Rattle.sets.specs.declared.store.Corner.the-variants.{Label}
-use Rattle.sets.specs.Store.{requiredAt, singlePoints}
+use Rattle.entries.specs.declared.store.Corner.the-variants.{Label}
+use Rattle.entries.specs.Store.{requiredAt}
+use Rattle.sets.specs.Held.{singlePoints}
 use Rattle.refusal.specs.Answer.{refusalOf}
 use Rattle.refusal.specs.declared.refusal.Refusal.{Refusal}
 use Rattle.form.specs.Formed.{Formed}

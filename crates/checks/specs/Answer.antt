@@ -7,7 +7,7 @@ use Rattle.hazard.specs.Refusal as spec
 use Rattle.hazard.specs.Sets.{required}
 use Rattle.cube.specs.Entry.{requiredIn}
 use Rattle.context.specs.Context.{tableIn}
-use Rattle.sets.specs.Store.{Held}
+use Rattle.sets.specs.Held.{Held}
 use Rattle.refusal.specs.Answer.{refusalOf}
 use Rattle.checks.specs.Problem.{Problem}
 use Rattle.checks.specs.declared.many.Counted.{Counted}

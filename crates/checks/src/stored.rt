@@ -3,7 +3,7 @@ ghost use Rattle.hazard.specs.Sets.{required};
 ghost use Rattle.cube.specs.Entry.{requiredIn};
 ghost use Rattle.context.specs.Context.{tableIn};
 ghost use Rattle.kinds.specs.Ready.{Ready};
-ghost use Rattle.sets.specs.Store.{Held};
+ghost use Rattle.sets.specs.Held.{Held};
 ghost use Rattle.checks.specs.Problem.{Privileged};
 use legality::store::store_privileged;
 use sets::privileged::privileged_into;

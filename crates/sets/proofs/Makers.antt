@@ -25,7 +25,7 @@ use Rattle.moves.proofs.Agree.{lasts-agree}
 use Rattle.context.specs.Places.{onesIn}
 use Rattle.context.specs.Context.{tableIn, Planes}
 use Rattle.context.proofs.Values.{table-length, plane-ones}
-use Rattle.sets.specs.Store.{requiredTo}
+use Rattle.entries.specs.Store.{requiredTo}
 
 -- Labels: the points of [S,E] in the plane of 1 with no move further into it.
 pub labels-agree : {n : ℕ} {w : List ℕ} → Planes n w → (s e : ℕ) {c : Cube} → Stands n c (span n s e) → {walk : Walk} → Walks n walk (has (cubeOf n c)) → Agrees (λ x. visits walk x && lasts n (inSet (onesIn w)) s e x) (maximalLabel n (tableIn n w) s e) (2 ^ n)

@@ -3,7 +3,7 @@ use Rattle.hazard.specs.Transition.{count}
 use Rattle.hazard.specs.Sets.{required}
 use Rattle.cube.specs.Entry.{requiredIn}
 use Rattle.context.specs.Context.{tableIn}
-use Rattle.sets.specs.Store.{Held}
+use Rattle.sets.specs.Held.{Held}
 use Rattle.checks.proofs.Checks.{no-singles}
 use borrow.Author.Needs.{needs}
 use Rattle.checks.proofs.stored.store_required.Statement.{statement}

@@ -10,8 +10,9 @@ use Rattle.hazard.specs.Sets.{dynamic, kindAt, privileged, privilegedFrom}
 use Rattle.cube.specs.Entry.{privilegedIn}
 use Rattle.context.specs.Context.{tableIn}
 use Rattle.kinds.proofs.Coded.{listed-few, ready-ends}
-use Rattle.sets.specs.Store.{privilegedBy}
-use Rattle.sets.proofs.Gather.{Filling, filling-start, filling-more, filling-end, stored-as, held, privileged-step, privileged-done, entry-few}
+use Rattle.entries.proofs.Filling.{Filling, filling-start, filling-more, filling-end, stored-as}
+use Rattle.sets.specs.Held.{privilegedBy}
+use Rattle.sets.proofs.Gather.{held, privileged-step, privileged-done, entry-few}
 use borrow.Author.Needs.{needs}
 use Rattle.sets.proofs.privileged.privileged_into.Statement.{statement}
 use Rattle.sets.proofs.privileged.privileged_into.Tie as tie

@@ -3,10 +3,11 @@ use Prim.Native.Nat.{ℕ}
 use native.Mathlib.Omega.{arith}
 use Rattle.hazard.specs.Cube.{span}
 use Rattle.kinds.specs.Codes.{kindIs}
-use Rattle.sets.specs.Store.{privilegedBy}
+use Rattle.entries.proofs.Filling.{stored-one}
+use Rattle.sets.specs.Held.{privilegedBy}
 use Rattle.cube.proofs.Word.{packed-clean}
 use Rattle.sets.proofs.Word.{word-privileged}
-use Rattle.sets.proofs.Gather.{start-lt, stored-one, stored-yes, stored-no}
+use Rattle.sets.proofs.Gather.{start-lt, stored-yes, stored-no}
 use borrow.Author.Needs.{needs}
 use Rattle.sets.proofs.privileged.store_privileged.Statement.{statement}
 use Rattle.sets.proofs.privileged.store_privileged.Tie as tie

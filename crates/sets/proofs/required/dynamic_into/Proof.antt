@@ -16,7 +16,7 @@ use Rattle.hazard.specs.Sets.{maximalLabel}
 use Rattle.moves.specs.Turn.{lasts}
 use Rattle.context.specs.Places.{onesIn}
 use Rattle.context.specs.Context.{tableIn}
-use Rattle.sets.specs.Store.{requiredTo}
+use Rattle.entries.specs.Store.{requiredTo}
 use Rattle.sets.proofs.Makers.{labels-agree}
 use Rattle.sets.proofs.Gather.{Walked, walked-start, walked-room, walked-below, walked-more, walked-end}
 use borrow.Author.Needs.{needs}

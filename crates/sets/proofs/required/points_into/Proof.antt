@@ -8,8 +8,8 @@ use Rattle.cube.specs.PointSet.{inSet}
 use Rattle.hazard.specs.Search.{those}
 use Rattle.points.specs.Walk.{visits}
 use Rattle.points.proofs.Agree.{Agrees}
-use Rattle.sets.specs.declared.store.Corner.the-variants.{Label}
-use Rattle.sets.specs.Store.{requiredAt}
+use Rattle.entries.specs.declared.store.Corner.the-variants.{Label}
+use Rattle.entries.specs.Store.{requiredAt}
 use Rattle.sets.proofs.Makers.{points-agree, those-few}
 use Rattle.sets.proofs.Gather.{Walked, walked-start, walked-room, walked-below, walked-more, walked-end}
 use borrow.Author.Needs.{needs}

@@ -9,9 +9,10 @@ use Rattle.cube.specs.Entry.{requiredIn}
 use Rattle.context.specs.Context.{tableIn}
 use Rattle.kinds.specs.Codes.{kindIs}
 use Rattle.kinds.proofs.Coded.{listed-few, ready-ends}
-use Rattle.sets.specs.Store.{requiredBy}
+use Rattle.entries.proofs.Filling.{Filling, filling-start, filling-room, filling-more, filling-end, stored-as, stored-then}
+use Rattle.sets.specs.Held.{requiredBy}
 use Rattle.sets.proofs.Makers.{required-few}
-use Rattle.sets.proofs.Gather.{Filling, filling-start, filling-room, filling-more, filling-end, stored-as, stored-then, held, required-step, required-done}
+use Rattle.sets.proofs.Gather.{held, required-step, required-done}
 use borrow.Author.Needs.{needs}
 use Rattle.sets.proofs.required.required_into.Statement.{statement}
 use Rattle.sets.proofs.required.required_into.Tie as tie

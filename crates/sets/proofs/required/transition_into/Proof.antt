@@ -2,7 +2,8 @@ use mathlib.Core.Path.{ap}
 use native.Mathlib.Omega.{arith}
 use Rattle.context.specs.Context.{tableIn}
 use Rattle.kinds.specs.Codes.{kindIs}
-use Rattle.sets.proofs.Gather.{by-size, by-is, stored-none, stored-as}
+use Rattle.entries.proofs.Filling.{stored-none, stored-as}
+use Rattle.sets.proofs.Gather.{by-size, by-is}
 use borrow.Author.Needs.{needs}
 use Rattle.sets.proofs.required.transition_into.Statement.{statement}
 use Rattle.sets.proofs.required.transition_into.Tie as tie

@@ -1,10 +1,10 @@
 use native.Mathlib.Omega.{arith}
 use Rattle.cube.proofs.Word.{packed-clean}
-use Rattle.sets.proofs.Word.{word-required}
-use Rattle.sets.proofs.Gather.{stored-one, stored-past}
+use Rattle.entries.proofs.Word.{word-required}
+use Rattle.entries.proofs.Filling.{stored-one, stored-past}
 use borrow.Author.Needs.{needs}
-use Rattle.sets.proofs.store.store.Statement.{statement}
-use Rattle.sets.proofs.store.store.Tie as tie
+use Rattle.entries.proofs.store.store.Statement.{statement}
+use Rattle.entries.proofs.store.store.Tie as tie
 
 returns : tie.Need-returns
 returns c = let a = c .before .before .args in stored-past (a .out .now) (a .at) (c .if1 .taken) _

@@ -6,7 +6,7 @@ ghost use Prim.Native.Nat.{ℕ, _+_, _^_, _≤_, _<_};
 ghost use lib.ListN.{length};
 ghost use Rattle.cube.specs.Entry.{requiredIn};
 ghost use Rattle.points.specs.PointWord.{pointsIn, Below};
-ghost use Rattle.sets.specs.Store.{Stored, cornerOf, requiredTo, requiredAt};
+ghost use Rattle.entries.specs.Store.{Stored, cornerOf, requiredTo, requiredAt};
 use cube::entry::pack;
 use cube::mask::span_of;
 use points::word::lowest_point;

@@ -5,11 +5,11 @@ use native.Mathlib.Omega.{arith}
 use lib.Count.{trailingZeros, trailing-le}
 use Rattle.hazard.specs.Sets.{Required}
 use Rattle.cube.specs.Entry.{requiredIn}
-use Rattle.sets.specs.Store.{requiredTo, requiredAt}
-use Rattle.sets.proofs.Gather.{Storing, storing-start, storing-below, storing-room, storing-bit, storing-less, storing-more, storing-end, stored-as}
+use Rattle.entries.specs.Store.{requiredTo, requiredAt}
+use Rattle.entries.proofs.Filling.{Storing, storing-start, storing-below, storing-room, storing-bit, storing-less, storing-more, storing-end, stored-as}
 use borrow.Author.Needs.{needs}
-use Rattle.sets.proofs.store.word_into.Statement.{statement}
-use Rattle.sets.proofs.store.word_into.Tie as tie
+use Rattle.entries.proofs.store.word_into.Statement.{statement}
+use Rattle.entries.proofs.store.word_into.Tie as tie
 
 abbrev Inv-loop : tie.InvT-loop
 Inv-loop n t corner w labels out₀ at left₀ k₀ out left k = Storing n (requiredIn n) (requiredAt n t corner) out₀ out at k w left labels

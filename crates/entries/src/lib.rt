@@ -1,0 +1,2 @@
+// Required cubes as words, stored one after another.
+pub mod store;
