@@ -101,8 +101,8 @@ module _ {n : ℕ} {required firsts before : List ℕ} (noted : Noted n required
         Option·some-injective (getD firsts i 0) j (sym (noted .each i l) ∙ covered-first (networkIn n before) (cubeIn n (getD required i 0)) j
         (omega (arith, below-end, length-map before (cubeIn n))) (rw (product-in n before j below-end) t) (λ v. u (rw (map-take (cubeIn n) j before) v)))
 
-    pub keeping-skip : found (first (neededIn firsts flags j) 0 (length firsts)) ≡ false → Keeping n required before now flags kept j
-    keeping-skip e =
+    pub keeping-skip : {b : Bool} → b ≡ found (first (neededIn firsts flags j) 0 (length firsts)) → b ≡ false → Keeping n required before now flags kept j
+    keeping-skip a f =
         record {
           order = omega (arith, s .order);
           inside· = s .inside·;
@@ -118,13 +118,13 @@ module _ {n : ℕ} {required firsts before : List ℕ} (noted : Noted n required
             → T (covered (networkIn n (drop kept now)) (cubeIn n (getD required i 0)))
         passed i l t u = elim (known (getD flags i false)) [
           | inl v ↦ rw (s .flagged i l) at v
-          | inr v ↦ absurd (so-not e (any-i (neededIn firsts flags j) (length firsts) i (omega (arith, noted .whole)) (simp tests (here-first i l t u, v))))
+          | inr v ↦ absurd (so-not (sym a ∙ f) (any-i (neededIn firsts flags j) (length firsts) i (omega (arith, noted .whole)) (simp tests (here-first i l t u, v))))
         ]
 
-    pub keeping-keep : found (first (neededIn firsts flags j) 0 (length firsts)) ≡ true → {flags′ : List Bool}
+    pub keeping-keep : {b : Bool} → b ≡ found (first (neededIn firsts flags j) 0 (length firsts)) → b ≡ true → {flags′ : List Bool}
         → ((i : ℕ) → i < length required → getD flags′ i false ≡ (inside (cubeIn n (getD required i 0)) (cubeIn n (getD now j 0)) || getD flags i false))
         → Keeping n required before (set now (kept - 1) (getD now j 0)) flags′ (kept - 1) j
-    keeping-keep e {flags′} h = go (any-e (neededIn firsts flags j) (length firsts) (so e))
+    keeping-keep a t {flags′} h = go (any-e (neededIn firsts flags j) (length firsts) (so (sym a ∙ t)))
       where
         k : ℕ
         k = kept - 1

@@ -63,6 +63,9 @@ returns c =
     let l = c .before .before .before .before .before .before .before .before .loop in
     turn-blocked (a .n) (a .context .now) (l .inv .0) (c .before .before .before .before .before .before .before .loop-test .taken) (subst (MadeFor (a .n) (offIn (a .context .now)) (privilegedOf (a .n) (a .context .now)) (getD (a .required .now) (l .i) 0)) (c .before .made .given .1) (c .before .before .before .product-for .ensures))
 
+mul-products : tie.Need-mul-products Inv-loop μ-loop
+mul-products c = let l = c .before .before .before .before .before .before .before .before .before .loop in record { fits = omega (arith, l .inv .0 .choosing .few, l .inv .0 .choosing .low, l .inv .0 .choosing .many) }
+
 slice-write-products : tie.Need-slice-write-products Inv-loop μ-loop
 slice-write-products c = let l = c .before .before .before .before .before .before .before .before .before .loop in omega (arith, l .inv .0 .choosing .few, l .inv .0 .choosing .room, c .before .before .before .before .before .before .before .before .loop-test .taken)
 
@@ -149,4 +152,4 @@ returns-2 : tie.Need-returns-2 Inv-loop μ-loop
 returns-2 c = let a = c .before .before .before .before .before .before .before .before .before .before .args in turn-end (a .n) (a .context .now) (c .before .loop .inv .0) (omega arith)
 
 pub choose-spec : {M : Type 1} → statement M
-choose-spec = tie.close (tie.spec Inv-loop μ-loop add-b (λ c. search needs) (λ c. search needs) part-uncovered-end (λ c κs. search needs) loop-holds (λ c. search needs) array-read-if1 (λ c. search needs) (λ c. search needs) part-product-for-end product-for-requires (λ c. search needs) same-length same-length-2 returns (λ c. search needs) (λ c κs. search needs) (λ c. search needs) slice-write-products (λ c. search needs) (λ c. search needs) part-uncovered-end-2 (λ c. search needs) (λ c. search needs) part-taken-end slice-aggregate-flag-product flag-product-requires (λ c. search needs) (λ c. search needs) part-note-end cast-note note-requires add-m loop-less loop-again (λ c. search needs) loop-again-2 same-length-3 same-length-4 returns-2)
+choose-spec = tie.close (tie.spec Inv-loop μ-loop add-b (λ c. search needs) (λ c. search needs) part-uncovered-end (λ c κs. search needs) loop-holds (λ c. search needs) array-read-if1 (λ c. search needs) (λ c. search needs) part-product-for-end product-for-requires (λ c. search needs) same-length same-length-2 returns (λ c. search needs) (λ c κs. search needs) mul-products slice-write-products (λ c. search needs) (λ c. search needs) part-uncovered-end-2 (λ c. search needs) (λ c. search needs) part-taken-end slice-aggregate-flag-product flag-product-requires (λ c. search needs) (λ c. search needs) part-note-end cast-note note-requires add-m loop-less loop-again (λ c. search needs) loop-again-2 same-length-3 same-length-4 returns-2)

@@ -37,11 +37,29 @@ part-irredundant-from-end-2 c = search (needs, choice (c .before .before .before
 irredundant-from-requires : tie.Need-irredundant-from-requires
 irredundant-from-requires c κs = (c .before .before .before .before .before .before .before .before .before .before .before .before .before .before .before .before .before .before .before .before .before .before .before .before .pre .0 .0 .inputs, rw (sub-zero (c .before .before .before .before .before .m .given .0 .0)) (rw (take-at (c .before .before .before .before .before .before .before .before .before .before .before .choose .last .1 .1 .1 .1 .0) _ (length (c .before .before .before .before .before .before .before .before .before .before .before .before .before .before .before .before .before .before .before .before .before .before .before .before .args .required .now) - 0) (c .before .before .before .before .before .before .before .before .before .before .before .choose .kept .1 .1 .1 .1 .0 ∙ part-size (c .before .before .before .before .before .before .before .before .before .before .before .before .before .before .before .before .before .before .before .before .before .before .before .before) ∙ sym (sub-zero (length (c .before .before .before .before .before .before .before .before .before .before .before .before .before .before .before .before .before .before .before .before .before .before .before .before .args .required .now))))) (choice (c .before .before .before .before .before .before .before .before .before .before .before) (c .before .before .before .before .before .m .given .1) .1 .noted)), c .before .before .before .before .before .before .before .before .before .before .before .before .before .before .before .before .before .blocks-into .ensures, wide (c .before .before .before .before .before .before .before .before .before .before .before .before .before .before .before .before .before))
 
+same-length : tie.Need-same-length
+same-length c = c .before .before .before .before .before .before .before .before .before .before .before .before .before .blocks-into .kept .1 .1 .1 .0
+
+same-length-2 : tie.Need-same-length-2
+same-length-2 c = c .before .before .before .before .before .before .firsts .given .1
+
+same-length-3 : tie.Need-same-length-3
+same-length-3 c = c .before .before .before .before .before .before .before .choose .kept .1 .1 .1 .1 .1 .0
+
 returns : tie.Need-returns
 returns c = choice (c .before .before .before .before .before .before .before) (c .before .q .given .1)
+
+same-length-4 : tie.Need-same-length-4
+same-length-4 c = c .before .before .before .before .before .before .before .before .before .before .before .before .before .before .before .before .before .before .before .before .blocks-into .kept .1 .1 .1 .0
+
+same-length-5 : tie.Need-same-length-5
+same-length-5 c = c .before .before .before .before .before .before .before .before .before .before .before .before .before .firsts .given .1
+
+same-length-6 : tie.Need-same-length-6
+same-length-6 c = c .before .products2 .given .1 ∙ c .before .before .before .before .before .before .before .before .before .before .before .before .before .before .choose .kept .1 .1 .1 .1 .1 .0
 
 returns-2 : tie.Need-returns-2
 returns-2 c = let h = choice (c .before .before .before .before .before .before .before .before .before .before .before .before .before .before) (c .before .before .before .before .before .before .before .before .m .given .1) in kept-from (h .1) (c .before .before .irredundant-from .ensures) (h .0) _
 
 pub select-spec : {M : Type 1} → statement M
-select-spec = tie.close (tie.spec (λ c κs. search needs) (λ c. search needs) (λ c. search needs) (λ c. search needs) choose-requires (λ c. search needs) (λ c. search needs) (λ c. search needs) (λ c. search needs) (λ c. search needs) (λ c. search needs) (λ c. search needs) part-irredundant-from-end-2 irredundant-from-requires (λ c. search needs) (λ c. search needs) (λ c. search needs) returns (λ c. search needs) (λ c. search needs) (λ c. search needs) returns-2)
+select-spec = tie.close (tie.spec (λ c κs. search needs) (λ c. search needs) (λ c. search needs) (λ c. search needs) choose-requires (λ c. search needs) (λ c. search needs) (λ c. search needs) (λ c. search needs) (λ c. search needs) (λ c. search needs) (λ c. search needs) part-irredundant-from-end-2 irredundant-from-requires same-length same-length-2 same-length-3 returns same-length-4 same-length-5 same-length-6 returns-2)
