@@ -1,4 +1,4 @@
-/* Set pieces K4 and K7 through both calls, printed as the program quiet prints them.
+/* Set pieces K2, K4 and K7 through both calls, printed as the program quiet prints them.
  *
  *   cc -I c c/example.c target/staticlib/libquiet_c.a -o example
  */
@@ -27,6 +27,10 @@ static void solve(size_t n, const uint8_t *table, const uint16_t *transitions, s
 
 int main(void)
 {
+    static const uint8_t k2[] = {1, 1, 1, 0};
+    static const uint16_t k2_transitions[] = {0, 3};
+    solve(2, k2, k2_transitions, 2);
+
     static const uint8_t k4[] = {0, 1, 0, 1, 0, 0, 1, 1};
     static const uint16_t k4_transitions[] = {3, 7};
     solve(3, k4, k4_transitions, 2);

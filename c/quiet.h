@@ -39,7 +39,8 @@ extern "C" {
  * 12  quiet_verify: a network byte above 2: the first such product
  */
 
-/* Writes a minimal hazard-free network into cover. n * 2048 bytes are always enough.
+/* Writes a minimal hazard-free network into cover. n * 2048 bytes are always enough. The products stand in ascending order of their bytes,
+ * compared from input 0 on: a 2, an absent literal, comes after 0 and 1.
  *
  * Answer: 256 * the number of products, so bits 0 to 7 are 0; or a refusal:
  *   bits  0 to  7  its number

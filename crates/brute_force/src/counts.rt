@@ -52,11 +52,13 @@ pub const PAST_THE_END: usize = 24;
 
 pub const NOT_PASSED: usize = 25;
 
-pub const VERDICT: usize = 26;
+pub const OUT_OF_SEQUENCE: usize = 26;
 
-pub const FIELDS_OF_FAULT: usize = 27;
+pub const VERDICT: usize = 27;
 
-pub const LEN: usize = 28;
+pub const FIELDS_OF_FAULT: usize = 28;
+
+pub const LEN: usize = 29;
 
 // One more. A count stops far above any that comes up.
 pub(crate) fn add(counts: &mut [u64; LEN], which: usize) {

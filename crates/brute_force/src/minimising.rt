@@ -14,6 +14,7 @@ use crate::counts::LEN;
 use crate::counts::MINIMISED;
 use crate::counts::NONE;
 use crate::counts::NOT_PASSED;
+use crate::counts::OUT_OF_SEQUENCE;
 use crate::counts::PAST_THE_END;
 use crate::counts::REFUSED_6;
 use crate::counts::REFUSED_7;
@@ -39,6 +40,7 @@ use selection::minimised::Minimised;
 use testing::marks::MARK;
 use testing::marks::is_marked;
 use testing::products::bytes_of;
+use testing::products::in_sequence;
 
 // Which way an instance went.
 pub enum Answer {
@@ -68,7 +70,7 @@ fn minimal(p: Instance, net: Network, count: usize, counts: &mut [u64; LEN]) {
     drops(p, net, counts);
 }
 
-// What the minimiser wrote: a minimal network that the verifier passes, and no byte more.
+// What the minimiser wrote: a minimal network in sequence that the verifier passes, and no byte more.
 fn made(p: Instance, cover: &[u8], count: usize, counts: &mut [u64; LEN]) -> Answer {
     let n = p.n as usize;
     let net = network_from(n, cover, count);
@@ -76,6 +78,7 @@ fn made(p: Instance, cover: &[u8], count: usize, counts: &mut [u64; LEN]) -> Ans
     let end = bytes_of(n, count, cover);
     expect(counts, PAST_THE_END, is_marked(cover, end));
     expect(counts, NOT_PASSED, passes(p, &cover[0..end]));
+    expect(counts, OUT_OF_SEQUENCE, in_sequence(n, &cover[0..end]));
     Answer::Made(net)
 }
 

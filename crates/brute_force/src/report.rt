@@ -49,7 +49,7 @@ fn print_disagreements(c: &[u64; LEN], from: usize) {
         from,
     );
     let next = print_line(
-        b"  network not hazard-free #, product can be dropped #, product inside a larger legal one #, bytes after the last product #, network not passed #\n",
+        b"  network not hazard-free #, product can be dropped #, product inside a larger legal one #, bytes after the last product #, network not passed #, product not before the next #\n",
         c,
         next,
     );

@@ -1,5 +1,4 @@
 // Up to 64 packed cubes tested against one cube at once, by bit columns.
 pub mod column;
-pub mod copy;
 pub mod relation;
 pub mod whole;

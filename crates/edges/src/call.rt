@@ -9,6 +9,7 @@ use testing::count::print_count;
 use testing::marks::MARK;
 use testing::marks::is_marked;
 use testing::products::bytes_of;
+use testing::products::in_sequence;
 use testing::products::print_products;
 use testing::report::print_refusal;
 
@@ -29,15 +30,27 @@ fn print_kept(name: &[u8], cover: &[u8], from: usize) {
     }
 }
 
-// How many products, a single one's bytes, and the buffer's rest: the order of several products is free. Returns how many bytes they take.
+// The products' bytes where they are few, and whether several are in sequence.
+fn print_written(n: usize, count: usize, bytes: &[u8]) {
+    if count <= 5 {
+        print_products(n, bytes);
+    }
+    if 1 < count {
+        if in_sequence(n, bytes) {
+            io::write_all(1, b", in sequence");
+        } else {
+            io::write_all(1, b", OUT OF SEQUENCE");
+        }
+    }
+}
+
+// How many products, what is written of them, and the buffer's rest. Returns how many bytes they take.
 fn print_network(n: usize, count: usize, cover: &[u8]) -> usize
     ensures { λ r. ⌜ r ≤ length (now (cover .entry)) ⌝ }
 {
     let end = bytes_of(n, count, cover);
     print_count(b"products ", count as u64);
-    if count == 1 {
-        print_products(n, &cover[0..end]);
-    }
+    print_written(n, count, &cover[0..end]);
     print_kept(b"rest", cover, end);
     end
 }

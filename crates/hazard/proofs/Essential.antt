@@ -1,8 +1,8 @@
 -- A computed test that finds the only minimal network: each required cube has a greatest dhf-implicant around it, and those are the products.
 use mathlib.Core.Path.{_≡_, refl, sym, subst}
-use mathlib.Core.Logic.{_⊎_, inl, inr, ∥∥₁-map}
+use mathlib.Core.Logic.{inl, inr}
 use mathlib.Core.Bool.{Bool, not, _&&_}
-use mathlib.Core.List.{List, [], _∷_, _++_, map, Perm, perm-ext-iff-of-nodup, List·Memᴰ, List·Memᴰ·head, List·Memᴰ·tail, List·Memᴰ·cases-cons, Memᴰ·append-left, Memᴰ·append-right, Memᴰ·map, Memᴰ·cast}
+use mathlib.Core.List.{List, [], _∷_, _++_, map, List·Memᴰ, List·Memᴰ·head, Memᴰ·append-left, Memᴰ·append-right, Memᴰ·map, Memᴰ·cast}
 use mathlib.Core.Option.{Option, none, some}
 use Prim.Native.Nat.{ℕ, zero, suc, _+_, _≤_, _<_}
 use native.Mathlib.Omega.{arith}
@@ -14,13 +14,15 @@ use Rattle.hazard.specs.Transition.{off}
 use Rattle.hazard.specs.Sets.{Required, required, privileged}
 use Rattle.hazard.specs.Implicant.{dhfImplicant, DhfPrime}
 use Rattle.hazard.specs.Cover.{Network, productAt, covered, without, Irredundant}
+use Rattle.hazard.specs.Sequence.{ascending}
 use Rattle.hazard.specs.Refusal.{Accepted}
 use Rattle.hazard.specs.Minimal.{Minimal}
 use Rattle.hazard.proofs.Test.{T-and, T-no, sure}
 use Rattle.hazard.proofs.Search.{not-found, Find, hit, find-is, find-none, first-none}
 use Rattle.hazard.proofs.Cube.{Digits, nil, cons, digits→, inside→, →inside, inside-trans, inside-antisym}
-use Rattle.hazard.proofs.Network.{place-of, entry-at, covered-e, covered-by}
-use Rattle.hazard.proofs.Minimal.{irredundant-nodup, minimal, minimal-own}
+use Rattle.hazard.proofs.Network.{place-of, entry-at, entry-cases, covered-entry, covered-by}
+use Rattle.hazard.proofs.Sequence.{ascending-once}
+use Rattle.hazard.proofs.Minimal.{minimal, minimal-own}
 
 -- All the products of n inputs.
 abbrev allProducts : ℕ → List Cube
@@ -43,12 +45,13 @@ module _ (n : ℕ) (f ts : List ℕ) where
   abbrev owned : Network → ℕ → Required → Bool
   owned net j r = inside (r .cube) (productAt net j) && not (covered (without j net) (r .cube))
 
-  -- Every product is a dhf-implicant; every required cube has its greatest one in the network; every product has a required cube of its own.
+  -- Every product is a dhf-implicant; every required cube has its greatest one in the network; every product has a required cube of its own;
+  -- and the products are in sequence.
   abbrev pub essential : Network → Bool
   essential net =
       (leb (length net) (length (required n f ts)) && not (found (find (λ p. not (dhf p)) net)))
       && (not (found (find (λ r. not (found (find (greatest (r .cube)) net))) (required n f ts)))
-      && not (found (first (λ j. not (found (find (owned net j) (required n f ts)))) 0 (length net))))
+      && (not (found (first (λ j. not (found (find (owned net j) (required n f ts)))) 0 (length net))) && ascending net))
 
 -- Every product of n inputs is in the list.
 in-all : {n : ℕ} {q : Cube} → Digits n q → List·Memᴰ q (allProducts n)
@@ -75,12 +78,6 @@ found-e {A} test l = go (find test l) (find-is test l)
 lacking : {A : Type 0} (test : A → Bool) (l : List A) → ¬ T (found (find test l)) → (a : A) → List·Memᴰ a l → ¬ T (test a)
 lacking test l t = find-none test l .0 (not-found t)
 
--- An entry is product j, or one of the others.
-entry-cases : (net : Network) (j : ℕ) {p : Cube} → List·Memᴰ p net → (p ≡ productAt net j) ⊎ List·Memᴰ p (without j net)
-entry-cases [] j m = inr m
-entry-cases (q ∷ net) zero m = List·Memᴰ·cases-cons m
-entry-cases (q ∷ net) (suc j) m = elim (List·Memᴰ·cases-cons m) [ inl e ↦ inr (List·Memᴰ·head e) | inr u ↦ elim (entry-cases net j u) [ inl e ↦ inl e | inr v ↦ inr (List·Memᴰ·tail v) ] ]
-
 module _ (n : ℕ) (f ts : List ℕ) (accepted : Accepted n f ts) (net : Network) (t : T (essential n f ts net)) where
   abbrev rs : List Required
   rs = required n f ts
@@ -90,7 +87,7 @@ module _ (n : ℕ) (f ts : List ℕ) (accepted : Accepted n f ts) (net : Network
 
   -- The parts of the test.
   parts : (T (leb (length net) (length rs)) × (¬ T (found (find (λ p. not (dhf n f ts p)) net))))
-      × ((¬ T (found (find (λ (r : Required). not (found (find (greatest n f ts (r .cube)) net))) rs))) × (¬ T (found (first (λ j. not (found (find (owned n f ts net j) rs))) 0 (length net)))))
+      × ((¬ T (found (find (λ (r : Required). not (found (find (greatest n f ts (r .cube)) net))) rs))) × ((¬ T (found (first (λ j. not (found (find (owned n f ts net j) rs))) 0 (length net)))) × T (ascending net)))
   parts = simp (T-and, T-no) at t
 
   dhf-at : (p : Cube) → List·Memᴰ p net → T (isProduct n p) × T (dhfImplicant n (off f) (privileged n f ts) p)
@@ -117,7 +114,7 @@ module _ (n : ℕ) (f ts : List ℕ) (accepted : Accepted n f ts) (net : Network
 
   own : Irredundant rs net
   own j l =
-      let s = sure (found (find (owned n f ts net j) rs)) (first-none (λ i. not (found (find (owned n f ts net i) rs))) 0 (length net) (not-found (parts .1 .1)) j (omega arith) (omega arith)) in
+      let s = sure (found (find (owned n f ts net j) rs)) (first-none (λ i. not (found (find (owned n f ts net i) rs))) 0 (length net) (not-found (parts .1 .1 .0)) j (omega arith) (omega arith)) in
       let (r, m, u) = found-e (owned n f ts net j) rs s in
       let h = simp (T-and, T-no) at u in
       record { cube = r; listed = m; mine = h .0; alone = h .1 }
@@ -143,7 +140,7 @@ module _ (n : ℕ) (f ts : List ℕ) (accepted : Accepted n f ts) (net : Network
   essential-minimal =
       minimal n f ts accepted net (λ p m. let (j, l, e) = place-of m in subst Prime e (prime-at j l))
       (λ r m. let (p, g) = top r m in covered-by (r .cube) (g .member) (g .around))
-      own (leb→le (length net) (length rs) (parts .0 .0))
+      own (leb→le (length net) (length rs) (parts .0 .0)) (parts .1 .1 .1)
 
   -- A dhf-prime around a required cube is its greatest dhf-implicant.
   prime-top : (r : Required) (p q : Cube) → Greatest r p → Prime q → T (inside (r .cube) q) → q ≡ p
@@ -152,9 +149,9 @@ module _ (n : ℕ) (f ts : List ℕ) (accepted : Accepted n f ts) (net : Network
       let d = dhf-at p (g .member) in
       inside-antisym (inside→ q p up) (inside→ p q (h .maximal p (d .0) (d .1) up))
 
-  pub essential-only : (other : Network) → Minimal n f ts other → Perm other net
-  essential-only other h =
-      perm-ext-iff-of-nodup (irredundant-nodup rs other mine) (irredundant-nodup rs net own) .1 (λ c. (λ m. ∥∥₁-map m (to c), λ m. ∥∥₁-map m (from c)))
+  -- A minimal network has the same products, and in sequence there is but one of them.
+  pub essential-only : (other : Network) → Minimal n f ts other → other ≡ net
+  essential-only other h = ascending-once other net (h .sequence) (parts .1 .1 .1) to from
     where
       mine : Irredundant rs other
       mine = minimal-own n f ts accepted other h
@@ -170,6 +167,5 @@ module _ (n : ℕ) (f ts : List ℕ) (accepted : Accepted n f ts) (net : Network
       from c m =
           let (j, l, e) = place-of m in
           let o = own j l in
-          let (i, k, u) = covered-e other (o .cube .cube) (h .cover .b (o .cube) (o .listed)) in
-          let v = entry-at other i k in
-          Memᴰ·cast (sym (prime-top (o .cube) c (productAt other i) (rw e at (own-top j l)) (h .primes (productAt other i) v) u)) v
+          let (q, v, u) = covered-entry other (o .cube .cube) (h .cover .b (o .cube) (o .listed)) in
+          Memᴰ·cast (sym (prime-top (o .cube) c q (rw e at (own-top j l)) (h .primes q v) u)) v

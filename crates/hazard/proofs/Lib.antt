@@ -16,6 +16,7 @@ pub mod Implicant
 pub mod Growth
 pub mod Expansion
 pub mod Network
+pub mod Sequence
 pub mod Existence
 pub mod Choice
 -- Runs of wires, and the theorem.

@@ -3,7 +3,7 @@ use mathlib.Core.Path.{_≡_, refl, sym, ap}
 use mathlib.Core.Logic.{_↔_, _≢_, inl, inr, ∥∥₁-elim}
 use mathlib.Core.HLevel.{⊥-prop}
 use mathlib.Core.Bool.{Bool, not, _&&_}
-use mathlib.Core.List.{List, [], _∷_, List·Memᴰ, List·Memᴰ·head, List·Memᴰ·tail, List·Memᴰ·cases-cons, List·Mem, List·Nodup, Pairwise·nil, Pairwise·cons}
+use mathlib.Core.List.{List, [], _∷_, List·Memᴰ, List·Mem, List·Nodup, Pairwise·nil, Pairwise·cons}
 use mathlib.Core.Option.{Option, none, some, Option·some-injective}
 use Prim.Native.Nat.{ℕ, zero, suc, _^_, _≤_}
 use native.Mathlib.Omega.{arith}
@@ -18,23 +18,18 @@ use Rattle.hazard.specs.Growth.{Growth, Legal, Blocked, steps, Grown, gr
 use Rattle.hazard.specs.Cover.{Network, productAt, WellFormed, covered, without, Own, Irredundant, HazardFreeCover}
 use Rattle.hazard.specs.HazardFree.{HazardFree}
 use Rattle.hazard.specs.Refusal.{Refusal, Accepted}
+use Rattle.hazard.specs.Sequence.{ascending}
 use Rattle.hazard.specs.Minimal.{blockedBy, blockCheck, blocking, FirstBlocking, Minimal}
 use Rattle.hazard.proofs.Test.{tests, or-l, or-r, or-e, T-no, sure}
 use Rattle.hazard.proofs.Search.{none-some, none-first, firstOf-map, firstOf-split, firstOf-some, Find, missing, hit, find-is}
 use Rattle.hazard.proofs.Meaning.{inside-points}
 use Rattle.hazard.proofs.Sets.{privileged-wide, required-digits}
-use Rattle.hazard.proofs.Network.{covered-by}
+use Rattle.hazard.proofs.Network.{without-member, covered-by}
 use Rattle.hazard.proofs.Implicant.{Wide, prime-is}
 use Rattle.hazard.proofs.Growth.{Grows, blocked-later, grow-runs, grow-steps}
 use Rattle.hazard.proofs.Existence.{dhf-cover, cover-exists}
 use Rattle.hazard.proofs.Source.{required-ones}
 use Rattle.hazard.proofs.Theorem.{cover-hazard-free}
-
--- What is left of a network is part of it.
-pub without-member : (j : ℕ) (net : Network) {p : Cube} → List·Memᴰ p (without j net) → List·Memᴰ p net
-without-member j [] m = m
-without-member zero (q ∷ net) m = List·Memᴰ·tail m
-without-member (suc j) (q ∷ net) m = elim (List·Memᴰ·cases-cons m) [ inl e ↦ List·Memᴰ·head e | inr u ↦ List·Memᴰ·tail (without-member j net u) ]
 
 -- What the network covers and its rest does not lies in the product left out.
 pub without-covered : (j : ℕ) (net : Network) (c : Cube) → T (covered net c) → ¬ T (covered (without j net) c) → T (inside c (productAt net j))
@@ -118,10 +113,10 @@ module _ (n : ℕ) (f ts : List ℕ) where
           few = h;
         }
 
-    -- Dhf-primes that cover every required cube, each with one of its own, meet the whole of demand 3.
+    -- Dhf-primes in sequence that cover every required cube, each with one of its own, meet the whole of demand 3.
     pub minimal : (net : Network) → ((p : Cube) → List·Memᴰ p net → DhfPrime n (off f) (privileged n f ts) p) → ((r : Required) → List·Memᴰ r (required n f ts) → T (covered net (r .cube)))
-        → Irredundant (required n f ts) net → length net ≤ length (required n f ts) → Minimal n f ts net
-    minimal net primes covers own few =
+        → Irredundant (required n f ts) net → length net ≤ length (required n f ts) → T (ascending net) → Minimal n f ts net
+    minimal net primes covers own few sequence =
         record {
           primes = primes;
           cover = cover;
@@ -132,6 +127,7 @@ module _ (n : ℕ) (f ts : List ℕ) where
           maximal = λ p m q w d s.
               let (x, l, i, j) = s .more in
               let u = primes p m .maximal q w d (inside-points n p q (good p m) w .1 (s .within)) in j (inside-points n q p w (good p m) .0 u x l i);
+          sequence = sequence;
         }
       where
         good : WellFormed n net

@@ -1,14 +1,14 @@
 -- Networks by the places of their products.
 use mathlib.Core.Path.{_≡_, refl, sym, subst}
-use mathlib.Core.Logic.{_↔_, inl, inr}
-use mathlib.Core.List.{[], _∷_, List·Memᴰ, List·Memᴰ·head, List·Memᴰ·tail}
+use mathlib.Core.Logic.{_↔_, _⊎_, inl, inr}
+use mathlib.Core.List.{[], _∷_, List·Memᴰ, List·Memᴰ·head, List·Memᴰ·tail, List·Memᴰ·cases-cons}
 use Prim.Native.Nat.{ℕ, zero, suc, _<_}
 use native.Mathlib.Nat.{not-suc-le-zero, le-of-suc-le-suc}
 use native.Mathlib.Omega.{arith}
 use lib.Dec.{T}
 use lib.ListN.{length}
 use Rattle.hazard.specs.Cube.{Cube, has, span, inside}
-use Rattle.hazard.specs.Cover.{Network, productAt, WellFormed, gives, covered}
+use Rattle.hazard.specs.Cover.{Network, productAt, WellFormed, gives, covered, without}
 use Rattle.hazard.proofs.Test.{or-l, or-r, or-e}
 use Rattle.hazard.proofs.Cube.{Digits, digits→}
 use Rattle.hazard.proofs.Point.{ends-e, ends-i}
@@ -26,6 +26,17 @@ entry-at (p ∷ net) (suc j) l = List·Memᴰ·tail (entry-at net j (le-of-suc-l
 -- What holds at every place holds of every entry.
 pub at-places : (P : Cube → Type 0) (net : Network) → ((j : ℕ) → j < length net → P (productAt net j)) → (p : Cube) → List·Memᴰ p net → P p
 at-places P net h p m = let r = place-of m in subst P (r .2) (h (r .0) (r .1))
+
+-- What is left of a network is part of it, and an entry is product j or one of the others.
+pub without-member : (j : ℕ) (net : Network) {p : Cube} → List·Memᴰ p (without j net) → List·Memᴰ p net
+without-member j [] m = m
+without-member zero (q ∷ net) m = List·Memᴰ·tail m
+without-member (suc j) (q ∷ net) m = elim (List·Memᴰ·cases-cons m) [ inl e ↦ List·Memᴰ·head e | inr u ↦ List·Memᴰ·tail (without-member j net u) ]
+
+pub entry-cases : (net : Network) (j : ℕ) {p : Cube} → List·Memᴰ p net → (p ≡ productAt net j) ⊎ List·Memᴰ p (without j net)
+entry-cases [] j m = inr m
+entry-cases (q ∷ net) zero m = List·Memᴰ·cases-cons m
+entry-cases (q ∷ net) (suc j) m = elim (List·Memᴰ·cases-cons m) [ inl e ↦ inr (List·Memᴰ·head e) | inr u ↦ elim (entry-cases net j u) [ inl e ↦ inl e | inr v ↦ inr (List·Memᴰ·tail v) ] ]
 
 -- Every entry has n digits.
 abbrev pub Products : ℕ → Network → Type 0
@@ -65,6 +76,10 @@ covered-joint n net good p q = (
   λ t. let r = covered-e net (span n p q) t in let h = ends-e n p q (productAt net (r .0)) (r .2) in (r .0, r .1, h .0, h .1),
   λ r. covered-i net (span n p q) (r .0) (r .1) (ends-i n p q (good (r .0) (r .1)) (r .2) (r .3)),
 )
+
+-- By entries in place of places.
+pub covered-entry : (net : Network) (c : Cube) → T (covered net c) → (p : Cube) × List·Memᴰ p net × T (inside c p)
+covered-entry net c t = let (j, l, u) = covered-e net c t in (productAt net j, entry-at net j l, u)
 
 pub covered-by : {net : Network} {p : Cube} (c : Cube) → List·Memᴰ p net → T (inside c p) → T (covered net c)
 covered-by {net} c m t = let (j, l, e) = place-of m in covered-i net c j l (rw e t)

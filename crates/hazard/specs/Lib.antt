@@ -8,6 +8,7 @@ pub mod Implicant
 pub mod Growth
 pub mod Expansion
 pub mod Cover
+pub mod Sequence
 pub mod Run
 pub mod HazardFree
 pub mod Refusal

@@ -15,6 +15,7 @@ use Rattle.hazard.specs.Implicant.{dhfImplicant, DhfPrime, StrictlyInsid
 use Rattle.hazard.specs.Growth.{Growth, Legal, Blocked, Grown, grow}
 use Rattle.hazard.specs.Cover.{Network, WellFormed, without, HazardFreeCover}
 use Rattle.hazard.specs.HazardFree.{HazardFree}
+use Rattle.hazard.specs.Sequence.{ascending}
 use Rattle.hazard.specs.Refusal.{Refusal, growthRefusal, refuseIf, inputChecks}
 
 -- 10: the growth of a required cube ends blocked; the cube's transition and label, the steps of its growth, and the zero that it ends at.
@@ -51,7 +52,7 @@ pub record FirstBlocking (n : ℕ) (f ts : List ℕ) (q : Refusal) : Type 0 wher
   pub few : q .steps ≤ n
 
 -- What holds of the minimiser's network: every product is a dhf-prime, the network is a hazard-free cover and hazard-free,
--- no product can be dropped, and there are at most as many as required cubes.
+-- no product can be dropped, there are at most as many as required cubes, and each comes before the next.
 pub record Minimal (n : ℕ) (f ts : List ℕ) (net : Network) : Type 0 where
   pub primes : (p : Cube) → List·Memᴰ p net → DhfPrime n (off f) (privileged n f ts) p
   pub cover : HazardFreeCover n f ts net
@@ -60,6 +61,7 @@ pub record Minimal (n : ℕ) (f ts : List ℕ) (net : Network) : Type 0 where
   pub few : length net ≤ length (required n f ts)
   -- By points: no product is strictly inside a dhf-implicant.
   pub maximal : (p : Cube) → List·Memᴰ p net → (q : Cube) → T (isProduct n q) → T (dhfImplicant n (off f) (privileged n f ts) q) → ¬ StrictlyInside n p q
+  pub sequence : T (ascending net)
 
 -- The bytes of a network, product after product.
 abbrev pub bytesOf : Network → List ℕ

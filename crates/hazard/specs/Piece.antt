@@ -1,7 +1,7 @@
 -- A set piece: a problem, what is asked of it and what the answer is; and what it says.
 use mathlib.Core.Path.{_≡_}
 use mathlib.Core.Bool.{Bool}
-use mathlib.Core.List.{List, [], Perm}
+use mathlib.Core.List.{List, []}
 use mathlib.Core.Option.{none, some}
 use Prim.Native.Nat.{ℕ, _*_}
 use lib.ListN.{length}
@@ -16,7 +16,7 @@ use Rattle.hazard.specs.Minimal.{minimiserChecks, Minimal}
 
 -- What is asked, and the answer.
 pub data Item : Type 0 where
-  -- The minimiser's network has these products, in some order.
+  -- The minimiser's network.
   minimised : Network → Item
   -- The minimiser refuses.
   declined : Refusal → Item
@@ -37,11 +37,11 @@ module _ (n : ℕ) (f ts : List ℕ) where
   abbrev pub bufferLength : ℕ
   bufferLength = n * length (required n f ts)
 
-  -- Exactly these products: they are a minimal network, and every minimal network has them.
+  -- This network and no other: it is minimal, and every minimal network is it.
   pub record Exactly (net : Network) : Type 0 where
     pub taken : firstOf (minimiserChecks n f ts bufferLength) ≡ none
     pub meets : Minimal n f ts net
-    pub only : (other : Network) → Minimal n f ts other → Perm other net
+    pub only : (other : Network) → Minimal n f ts other → other ≡ net
 
   -- What an item says of the problem.
   abbrev pub Says : Item → Type 0

@@ -28,7 +28,7 @@ net5 = 1 ∷ 2 ∷ 0 ∷ 2 ∷ 1 ∷ 1 ∷ []
 abbrev pub pieces : List Piece
 pieces =
     piece 1 (1 ∷ 1 ∷ []) (0 ∷ 1 ∷ []) (minimised ((2 ∷ []) ∷ []))
-    ∷ k2 (minimised ((2 ∷ 0 ∷ []) ∷ (0 ∷ 2 ∷ []) ∷ []))
+    ∷ k2 (minimised ((0 ∷ 2 ∷ []) ∷ (2 ∷ 0 ∷ []) ∷ []))
     ∷ piece 2 (0 ∷ 1 ∷ 1 ∷ 1 ∷ []) (1 ∷ 2 ∷ []) (declined (refusal 7 0 0))
     ∷ k4 (minimised ((1 ∷ 1 ∷ 2 ∷ []) ∷ []))
     ∷ k4 (verified net5 (uncovered 0 7))

@@ -2,10 +2,10 @@
 use mathlib.Core.Path.{_≡_, sym, ap, _∙_}
 use mathlib.Core.Bool.{Bool}
 use mathlib.Core.List.{List}
-use Prim.Native.Nat.{ℕ, _+_, _≤_, _<_}
+use Prim.Native.Nat.{ℕ, _+_, _≤_}
 use native.Mathlib.Omega.{arith}
-use lib.ListN.{length, getD, take, drop, set, length-set}
-use lib.Seq.{getD-set-same, ext-getD}
+use lib.ListN.{length, take, drop, set, length-set}
+use lib.Seq.{getD-set-same}
 use Rattle.hazard.specs.Cube as digits
 use Rattle.columns.specs.Relation.{relates}
 use Rattle.columns.specs.declared.relation.Relation.the-variants.{Meets, PointInside}
@@ -64,10 +64,9 @@ module _ (m k : ℕ) (part first second w : List ℕ) where
     cubes : privilegedWords four ≡ part
     cubes = ap (λ (j : ℕ). take j (drop privilegedAt four)) count ∙ kept-one privilegedAt m (omega (arith, few)) ∙ placed-new privilegedAt m part w p (omega (arith, whole, few))
 
-    pub filled-is : {n : ℕ} {privileged : List ℕ} → n ≤ 10 → length privileged ≡ m → ((i : ℕ) → i < length privileged → getD part i 0 ≡ getD privileged i 0)
+    pub filled-is : {n : ℕ} {privileged : List ℕ} → n ≤ 10 → part ≡ privileged
         → Blocks (λ v c. relates Meets n c v) n privileged first → Blocks (λ v c. relates PointInside n c v) n privileged second → Filled n privileged w four
-    filled-is {n} {privileged} h l same b d =
-        let e : part ≡ privileged = ext-getD 0 part privileged (p ∙ sym l) (λ i u. same i (omega (arith, u, p, l))) in
+    filled-is h e b d =
         record {
           ready = record {
             inputs = h;

@@ -5,12 +5,12 @@ ghost use lib.ListN.{length};
 ghost use Rattle.context.specs.Places.{words};
 ghost use Rattle.legality.specs.Ready.{Filled};
 use blocks::fill::blocks_into;
-use columns::copy::copy_into;
 use columns::relation::Relation;
 use context::places::COUNT;
 use context::places::MEETS;
 use context::places::PRIVILEGED;
 use context::places::STARTS;
+use cube::copy::copy_into;
 
 // The privileged cubes are stored, with their columns and their count; the planes stay.
 pub fn store_privileged(n: usize, privileged: &[u64], context: &mut [u64])

@@ -1,2 +1,3 @@
+pub mod Sorting
 pub mod Writing
 pub mod Answering

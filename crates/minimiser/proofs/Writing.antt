@@ -7,7 +7,8 @@ use Prim.Native.Nat.{ℕ, _*_, _-_, _≤_}
 use native.Mathlib.Nat.{le-trans, mul-le-mul-right}
 use native.Mathlib.Omega.{arith}
 use lib.ListN.{length, take, drop, length-take, length-drop}
-use lib.Seq.{length-take-le}
+use lib.Seq.{length-take-le, take-at, drop-at}
+use borrow.Rule.Slice.PartMut.{putMid, postOf}
 use Rattle.hazard.specs.Limits.{mostRequired}
 use Rattle.hazard.specs.Sets.{Required, Privileged}
 use Rattle.hazard.specs.Refusal.{Refusal}
@@ -18,11 +19,20 @@ use Rattle.selection.specs.declared.select.Selected.{Selected}
 use Rattle.selection.specs.declared.select.Selected.the-variants.{Words, Refused}
 use Rattle.selection.specs.Choose.{blockingOf}
 use Rattle.selection.specs.Select.{KeptFrom, Selects}
+use Rattle.sequence.specs.Sorted.{Sorts}
+use Rattle.sequence.specs.Words.{upTo}
+use Rattle.sequence.proofs.Reordered.{reordered-length}
 use Rattle.minimiser.specs.Answer.{Writable, Answered}
+use Rattle.minimiser.proofs.Sorting.{sorted-kept, sorted-sequence}
 
 -- As many words stand in a part as its places say.
 pub part-length : (products : List ℕ) {from to : ℕ} → from ≤ to → to ≤ length products → length (take (to - from) (drop from products)) ≡ to - from
 part-length products {from} {to} low high = length-take-le (to - from) (drop from products) (omega (arith, length-drop from products))
+
+-- A part that is put back is read back.
+pub part-back : (products words : List ℕ) {from to : ℕ} → from ≤ to → to ≤ length products → length words ≡ length (take (to - from) (drop from products)) → take (to - from) (drop from (putMid from (to - from) products words)) ≡ words
+part-back products words {from} {to} low high size =
+    rw (drop-at (take from products) (words ++ postOf from (to - from) products) from (length-take-le from products (omega arith))) (take-at words (postOf from (to - from) products) (to - from) (size ∙ part-length products low high))
 
 -- And no more words than that are ever written.
 pub written-few : (products : List ℕ) (from k most : ℕ) → k ≤ most → length (take k (drop from products)) ≤ most
@@ -44,12 +54,18 @@ module _ (n : ℕ) (off : ℕ → Bool) (vs : List Privileged) (rs : List Requir
   answered-refused {q} before e =
       record { refused = λ p h. (ap declined (Option·some-injective q p (sym e ∙ h)), refl); network = λ h. none-some (sym h ∙ e) }
 
-  pub answered-written : {products before after : List ℕ} {from to : ℕ} → KeptFrom n off vs rs products from to
-      → after ≡ bytesOf (networkIn n (take (to - from) (drop from products))) ++ drop (length (take (to - from) (drop from products)) * n) before → Answered n off vs rs before after (written (to - from))
-  answered-written {products} {from = from} {to} h e =
+  pub answered-written : {products before after : List ℕ} {from to : ℕ} (words : List ℕ) → KeptFrom n off vs rs products from to → Sorts upTo (take (to - from) (drop from products)) words
+      → after ≡ bytesOf (networkIn n words) ++ drop (length words * n) before → Answered n off vs rs before after (written (to - from))
+  answered-written {products} words h s e =
       record {
         refused = λ p i. none-some (sym (h .free) ∙ i);
-        network = λ i. record { words = take (to - from) (drop from products); kept = h .kept; size = ap written (sym (part-length products (h .low) (h .high))); is = e };
+        network = λ i. record {
+          words = words;
+          kept = sorted-kept (h .kept) s;
+          sequence = sorted-sequence (h .kept) s;
+          size = ap written (sym (part-length products (h .low) (h .high)) ∙ reordered-length (s .same));
+          is = e;
+        };
       }
 
   -- A refusal leaves the buffer as it was.

@@ -24,8 +24,9 @@ pub fn network_few(n: usize, context: &[u64], required: &[u64], cover: &mut [u8]
     let mut columns = [0u64; 30 * ((FEW + 63) / 64)];
     let mut firsts = [0u16; FEW];
     let mut words = [0u64; FEW];
+    let mut scratch = [0u64; FEW];
     let selected = select(n, context, required, &mut columns, &mut firsts, &mut words);
-    written(n, selected, &words, cover)
+    written(n, selected, &mut words, &mut scratch, cover)
 }
 
 // As many required cubes as there can be.
@@ -37,6 +38,7 @@ pub fn network_many(n: usize, context: &[u64], required: &[u64], cover: &mut [u8
     let mut columns = [0u64; 30 * ((MOST_REQUIRED + 63) / 64)];
     let mut firsts = [0u16; MOST_REQUIRED];
     let mut words = [0u64; MOST_REQUIRED];
+    let mut scratch = [0u64; MOST_REQUIRED];
     let selected = select(n, context, required, &mut columns, &mut firsts, &mut words);
-    written(n, selected, &words, cover)
+    written(n, selected, &mut words, &mut scratch, cover)
 }

@@ -6,7 +6,7 @@ ghost use lib.ListN.{length, getD};
 ghost use Rattle.blocks.specs.Blocks.{stride, allowedTo};
 ghost use Rattle.rows.specs.Sets.{Split};
 use crate::narrow::narrow;
-use columns::copy::copy_into;
+use cube::copy::copy_into;
 use cube::mask::Cube;
 
 // The rows of the other set leave.

@@ -5,15 +5,13 @@ use mathlib.Core.List.{List, _++_, map, List·Memᴰ, Memᴰ·of-map}
 use mathlib.Core.Option.{none}
 use Prim.Native.Nat.{ℕ, _+_, _-_, _<_}
 use native.Mathlib.Nat.{sub-zero}
-use native.Mathlib.Decide.{decLt}
 use native.Mathlib.Omega.{arith}
-use lib.ListN.{length, getD, take, drop, length-drop, length-append, length-map, List·getD-eq-default}
+use lib.ListN.{length, getD, take, drop, length-drop, length-append, length-map}
 use lib.Seq.{drop-append-le, take-at, getD-take, getD-drop, length-take-le}
 use Rattle.hazard.specs.Cube.{Cube}
 use Rattle.hazard.specs.Sets.{Privileged}
 use Rattle.hazard.specs.Implicant.{DhfPrime}
 use Rattle.cube.specs.Entry.{requiredIn, CleanWord, cubeIn, networkIn}
-use Rattle.cube.proofs.Word.{zero-clean}
 use Rattle.choice.specs.Keep.{Kept}
 use Rattle.choice.proofs.Keeping.{index-of}
 use Rattle.selection.specs.Choose.{blockingOf, PrimeWord, Chosen}
@@ -47,8 +45,8 @@ module _ {n : ℕ} {off : ℕ → Bool} {vs : List Privileged} {required firsts 
         let (i, l, g) = index-of v in
         subst (DhfPrime n off vs) (ap (cubeIn n) g ∙ e) (kept-word i l .prime)
 
-    kept-clean : (k : ℕ) → CleanWord n (getD (drop r after) k 0)
-    kept-clean k = elim (decLt k (length (drop r after))) [ yes l ↦ kept-word k l .clean | no l ↦ rw (List·getD-eq-default (drop r after) 0 {n = k} (omega (arith, l))) (zero-clean n) ]
+    kept-clean : (w : ℕ) → List·Memᴰ w (drop r after) → CleanWord n w
+    kept-clean w u = let (i, l, g) = index-of u in subst (CleanWord n) g (kept-word i l .clean)
 
     kept-words : KeptWords n off vs (map (requiredIn n) required) (drop r after)
     kept-words =

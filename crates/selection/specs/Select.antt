@@ -5,7 +5,7 @@ use mathlib.Core.List.{List, List·Memᴰ}
 use mathlib.Core.Option.{none, some}
 use Prim.Native.Nat.{ℕ, _-_, _≤_}
 use lib.Dec.{T}
-use lib.ListN.{length, getD, take, drop}
+use lib.ListN.{length, take, drop}
 use Rattle.hazard.specs.Cube.{Cube}
 use Rattle.hazard.specs.Sets.{Required, Privileged}
 use Rattle.hazard.specs.Implicant.{DhfPrime}
@@ -18,7 +18,7 @@ use Rattle.selection.specs.declared.select.Selected.the-variants.{Words,
 
 -- The words stand for a network of dhf-primes that covers every required cube, each with one of its own.
 pub record KeptWords (n : ℕ) (off : ℕ → Bool) (vs : List Privileged) (rs : List Required) (words : List ℕ) : Type 0 where
-  pub clean : (k : ℕ) → CleanWord n (getD words k 0)
+  pub clean : (w : ℕ) → List·Memᴰ w words → CleanWord n w
   pub primes : (p : Cube) → List·Memᴰ p (networkIn n words) → DhfPrime n off vs p
   pub covers : (q : Required) → List·Memᴰ q rs → T (covered (networkIn n words) (q .cube))
   pub own : Irredundant rs (networkIn n words)

@@ -38,3 +38,36 @@ pub fn print_products(n: usize, bytes: &[u8]) {
         i += 1;
     }
 }
+
+// Whether the first byte at which two products differ is lower in the first.
+fn comes_before(p: &[u8], q: &[u8]) -> bool {
+    let mut i = 0;
+    while i < p.len() {
+        if q.len() <= i {
+            return false;
+        }
+        if p[i] != q[i] {
+            return p[i] < q[i];
+        }
+        i += 1;
+    }
+    false
+}
+
+// Whether each product comes before the next.
+pub fn in_sequence(n: usize, bytes: &[u8]) -> bool {
+    if n == 0 {
+        return false;
+    }
+    if 10 < n {
+        return false;
+    }
+    let mut at = n;
+    while at < bytes.len() {
+        if !comes_before(&bytes[at - n..at], &bytes[at..]) {
+            return false;
+        }
+        at += n;
+    }
+    true
+}

@@ -16,17 +16,16 @@ fn problem(table: &str, transitions: &[u16]) -> Problem {
     }
 }
 
-/// What both minimisers answer: the products in order, or the refusal as it is printed.
+/// What both minimisers answer: the products as they are written, or the refusal as it is printed.
 fn minimised(p: &Problem) -> String {
     let length = p.n * 2048;
     let mut rng = Rng::new(1);
     match same_minimise(&mut rng, &mut Tally::default(), p, length) {
         Some(network) => {
-            let mut products: Vec<String> = network
+            let products: Vec<String> = network
                 .chunks(p.n)
                 .map(|product| product.iter().map(u8::to_string).collect())
                 .collect();
-            products.sort();
             products.join(" ")
         }
         None => {

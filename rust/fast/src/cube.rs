@@ -47,6 +47,15 @@ const fn low_masks() -> [[[u64; 8]; 8]; 2] {
     masks
 }
 
+/// The bits of a number with a zero after each.
+fn apart(bits: u16) -> u32 {
+    let mut x = u32::from(bits);
+    x = (x | x << 8) & 0x00ff_00ff;
+    x = (x | x << 4) & 0x0f0f_0f0f;
+    x = (x | x << 2) & 0x3333_3333;
+    (x | x << 1) & 0x5555_5555
+}
+
 impl Cube {
     /// The smallest cube with both points.
     pub fn spanned(p: u16, q: u16, full: u16) -> Self {
@@ -94,6 +103,11 @@ impl Cube {
             let absent = !(self.care >> i) & 1;
             *byte = (self.value >> i & 1 | absent << 1) as u8;
         }
+    }
+
+    /// A number that orders products as their bytes do: two bits for each input, its byte, input 0 highest.
+    pub fn rank(self) -> u32 {
+        apart((!self.care).reverse_bits()) << 1 | apart(self.value.reverse_bits())
     }
 
     /// Its points in any word that it reaches.

@@ -39,7 +39,7 @@ impl Block {
 ///
 /// In one pass over the required cubes, the first that lies in no product yet is grown and widened. A cube that lies in a legal product
 /// does not block, so the first that blocks here is the first of all. Backwards, a product is kept if it has a required cube that is in
-/// no earlier product and in no kept one.
+/// no earlier product and in no kept one. The kept ones are written in ascending order of their bytes.
 pub fn minimise(
     n: usize,
     table: &[u8],
@@ -116,13 +116,13 @@ fn solve<const JOINS: bool>(
             }
         }
     }
-    let chosen = products.iter().zip(&keeps).filter(|(_, &keep)| keep);
-    let mut count = 0;
-    for ((product, _), bytes) in chosen.zip(cover.chunks_exact_mut(n)) {
+    let mut keep = keeps.iter();
+    products.retain(|_| keep.next() == Some(&true));
+    products.sort_unstable_by_key(|product| product.rank());
+    for (product, bytes) in products.iter().zip(cover.chunks_exact_mut(n)) {
         product.write(bytes);
-        count += 1;
     }
-    Ok(count)
+    Ok(products.len())
 }
 
 /// The cube grown over the required cubes from a place on that are left, where that ends legal.

@@ -16,10 +16,11 @@ pub enum Broken {
     Widens(usize),
     Uncovered(usize),
     Droppable(usize),
+    OutOfSequence(usize),
 }
 
 /// Whether the network is a minimal one for an accepted problem: legal products, none inside a larger legal one, every required cube
-/// inside one, none droppable, and no more products than required cubes.
+/// inside one, none droppable, no more products than required cubes, and each before the next by their bytes.
 ///
 /// `every` also tries each larger product, and not only the growth of each raised literal.
 pub fn check(
@@ -60,8 +61,12 @@ pub fn check(
             _ => {}
         }
     }
-    match needed.iter().position(|n| !n) {
-        Some(j) => Err(Broken::Droppable(j)),
+    if let Some(j) = needed.iter().position(|n| !n) {
+        return Err(Broken::Droppable(j));
+    }
+    let bytes: Vec<&[u8]> = network.chunks_exact(n).collect();
+    match bytes.windows(2).position(|pair| pair[0] >= pair[1]) {
+        Some(j) => Err(Broken::OutOfSequence(j)),
         None => Ok(()),
     }
 }

@@ -53,16 +53,14 @@ pub const MOST_PRODUCTS: usize = 2048;
 
 /// Writes a minimal hazard-free network into `cover`, one product of n bytes after another, and returns how many there are.
 ///
-/// Bytes after the last product keep their contents, and so does the whole buffer after a refusal. The buffer has to have n bytes for
-/// each required cube.
+/// The products stand in ascending order of their bytes, compared from input 0 on, so an absent literal (2, printed `-`) comes after both
+/// others. Bytes after the last product keep their contents, and so does the whole buffer after a refusal. The buffer has to have n bytes
+/// for each required cube.
 ///
 /// ```
 /// let mut cover = [9; 6];
 /// assert_eq!(quiet::minimise(2, &[1, 1, 1, 0], &[[0, 3]], &mut cover), Ok(2));
-/// let mut products: Vec<_> = cover[..4].chunks(2).collect();
-/// products.sort();
-/// assert_eq!(products, [[0, 2], [2, 0]]);
-/// assert_eq!(cover[4..], [9, 9]);
+/// assert_eq!(cover, [0, 2, 2, 0, 9, 9]);
 /// ```
 pub fn minimise(
     n: usize,
@@ -78,7 +76,7 @@ pub fn minimise(
     ))
 }
 
-/// The products of a minimal hazard-free network, in a vector of their own.
+/// The products of a minimal hazard-free network, in ascending order, in a vector of their own.
 pub fn products(
     n: usize,
     table: &[u8],

@@ -3,7 +3,8 @@
 use crate::MOST_INPUTS;
 use std::fmt;
 
-/// A product: for each input a plain literal, an inverted literal, or none.
+/// A product: for each input a plain literal, an inverted literal, or none. Ordered by its bytes, from input 0 on: an absent literal, printed
+/// `-`, comes after both others.
 #[derive(Clone, Copy, PartialEq, Eq, Hash, PartialOrd, Ord)]
 pub struct Product {
     bytes: [u8; MOST_INPUTS],
