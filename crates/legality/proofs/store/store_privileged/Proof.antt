@@ -2,7 +2,7 @@ use mathlib.Core.Path.{_≡_, _∙_}
 use mathlib.Core.List.{List}
 use Prim.Native.Nat.{ℕ, _+_, _-_, _≤_}
 use native.Mathlib.Omega.{arith}
-use lib.ListN.{length}
+use lib.ListN.{length, take, drop}
 use lib.Seq.{take-all}
 use Rattle.context.specs.Places.{privilegedAt, meetsAt, startsAt}
 use Rattle.context.proofs.Parts.{part-length}
@@ -45,7 +45,7 @@ copied c =
     let w = s .args .context .now in
     let m = privilegedAt + length (s .args .privileged .now) - privilegedAt in
     let l = part-length privilegedAt m w (omega (arith, s .pre .1, s .pre .2)) in
-    c .before .before .before .before .before .before .before .before .before .before .copy-into .ensures ∙ take-all _ (s .args .privileged .now) (omega (arith, l, cut s))
+    c .before .before .before .before .before .before .before .before .before .before .copy-into .ensures ∙ take-all (length (take m (drop privilegedAt w))) (s .args .privileged .now) (omega (arith, l, cut s))
 
 same-length : tie.Need-same-length
 same-length c = let s = c .before .before .before .before .before .before .before .before .before .before .before .before .before .before in stored-length (privilegedAt + length (s .args .privileged .now) - privilegedAt) (length (s .args .privileged .now)) (part c) (first c) (second c) (s .args .context .now) (s .pre .2) (cut s) (omega (arith, cut s, s .pre .1)) (sizes c .0) (sizes c .1 .0) (sizes c .1 .1)
