@@ -7,8 +7,7 @@ use Prim.Native.Nat.{ℕ, _*_, _-_, _≤_}
 use native.Mathlib.Nat.{le-trans, mul-le-mul-right}
 use native.Mathlib.Omega.{arith}
 use lib.ListN.{length, take, drop, length-take, length-drop}
-use lib.Seq.{length-take-le, take-at, drop-at}
-use borrow.Rule.Slice.PartMut.{putMid, postOf}
+use lib.Seq.{length-take-le}
 use Rattle.hazard.specs.Limits.{mostRequired}
 use Rattle.hazard.specs.Sets.{Required, Privileged}
 use Rattle.hazard.specs.Refusal.{Refusal}
@@ -28,11 +27,6 @@ use Rattle.minimiser.proofs.Sorting.{sorted-kept, sorted-sequence}
 -- As many words stand in a part as its places say.
 pub part-length : (products : List ℕ) {from to : ℕ} → from ≤ to → to ≤ length products → length (take (to - from) (drop from products)) ≡ to - from
 part-length products {from} {to} low high = length-take-le (to - from) (drop from products) (omega (arith, length-drop from products))
-
--- A part that is put back is read back.
-pub part-back : (products words : List ℕ) {from to : ℕ} → from ≤ to → to ≤ length products → length words ≡ length (take (to - from) (drop from products)) → take (to - from) (drop from (putMid from (to - from) products words)) ≡ words
-part-back products words {from} {to} low high size =
-    rw (drop-at (take from products) (words ++ postOf from (to - from) products) from (length-take-le from products (omega arith))) (take-at words (postOf from (to - from) products) (to - from) (size ∙ part-length products low high))
 
 -- And no more words than that are ever written.
 pub written-few : (products : List ℕ) (from k most : ℕ) → k ≤ most → length (take k (drop from products)) ≤ most

@@ -1,9 +1,15 @@
 // The network's products, put in sequence, and their bytes written into the lent buffer.
+ghost use mathlib.Core.Path.{_≡_};
 ghost use mathlib.Core.Bool.{Bool};
-ghost use mathlib.Core.List.{List};
-ghost use Prim.Native.Nat.{ℕ, _≤_};
-ghost use lib.ListN.{length};
+ghost use mathlib.Core.List.{List, _++_};
+ghost use Prim.Native.Nat.{ℕ, _*_, _≤_};
+ghost use lib.ListN.{length, drop};
+ghost use Rattle.hazard.specs.Limits.{mostRequired};
 ghost use Rattle.hazard.specs.Sets.{Required, Privileged};
+ghost use Rattle.hazard.specs.Minimal.{bytesOf};
+ghost use Rattle.cube.specs.Entry.{networkIn};
+ghost use Rattle.sequence.specs.Sorted.{Sorts};
+ghost use Rattle.sequence.specs.Words.{upTo};
 ghost use Rattle.selection.specs.Select.{Selects};
 ghost use Rattle.selection.specs.Answer.{minimisedOf};
 ghost use Rattle.minimiser.specs.Answer.{Writable, Answered};
@@ -12,8 +18,16 @@ use selection::minimised::Minimised;
 use selection::select::Selected;
 use sequence::sort::sort;
 
-// What select answers, as the minimiser's answer: the words that it kept are sorted and their bytes written, or nothing is where it refused.
-// `scratch` is room for the sort.
+// The words are sorted, and their bytes written. `scratch` is room for the sort.
+fn write_sorted(n: usize, words: &mut [u64], scratch: &mut [u64], cover: &mut [u8])
+    requires { ⌜ (n ≤ 10) × (length (now words) ≤ mostRequired) × (length (now words) * n ≤ length (now cover)) × (length (now words) ≤ length (now scratch)) ⌝ }
+    ensures { λ _. ⌜ Sorts upTo (now (words .entry)) (now (words .exit)) × (now (cover .exit) ≡ bytesOf (networkIn n (now (words .exit))) ++ drop (length (now (words .exit)) * n) (now (cover .entry))) ⌝ }
+{
+    sort(words, scratch);
+    write_network(n, words, cover);
+}
+
+// What select answers, as the minimiser's answer: the words that it kept are written in sequence, or nothing where it refused.
 pub fn written(
     n: usize,
     selected: Selected,
@@ -27,8 +41,7 @@ pub fn written(
     match selected {
         Selected::Refused(q) => Minimised::Refused(q),
         Selected::Words(from, to) => {
-            sort(&mut products[from..to], scratch);
-            write_network(n, &products[from..to], cover);
+            write_sorted(n, &mut products[from..to], scratch, cover);
             Minimised::Products(to - from)
         }
     }
