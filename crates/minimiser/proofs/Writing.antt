@@ -6,7 +6,7 @@ use mathlib.Core.Option.{some, Option·some-injective}
 use Prim.Native.Nat.{ℕ, _*_, _-_, _≤_}
 use native.Mathlib.Nat.{le-trans, mul-le-mul-right}
 use native.Mathlib.Omega.{arith}
-use lib.ListN.{length, take, drop, length-take, length-drop}
+use lib.ListN.{length, take, drop, length-drop}
 use lib.Seq.{length-take-le}
 use Rattle.hazard.specs.Limits.{mostRequired}
 use Rattle.hazard.specs.Sets.{Required, Privileged}
@@ -28,12 +28,9 @@ use Rattle.minimiser.proofs.Sorting.{sorted-kept, sorted-sequence}
 pub part-length : (products : List ℕ) {from to : ℕ} → from ≤ to → to ≤ length products → length (take (to - from) (drop from products)) ≡ to - from
 part-length products {from} {to} low high = length-take-le (to - from) (drop from products) (omega (arith, length-drop from products))
 
--- And no more words than that are ever written.
-pub written-few : (products : List ℕ) (from k most : ℕ) → k ≤ most → length (take k (drop from products)) ≤ most
-written-few products from k most h = omega (arith, length-take k (drop from products))
-
-pub written-room : (n : ℕ) (products cover : List ℕ) (from k : ℕ) → k * n ≤ length cover → length (take k (drop from products)) * n ≤ length cover
-written-room n products cover from k h = le-trans (mul-le-mul-right n (written-few products from k k (omega arith))) h
+-- The bytes of no more words than there is room for.
+pub written-room : (n : ℕ) {m r k : ℕ} → m * n ≤ r → k ≤ m → k * n ≤ r
+written-room n room h = le-trans (mul-le-mul-right n h) room
 
 module _ (n : ℕ) (off : ℕ → Bool) (vs : List Privileged) (rs : List Required) where
   -- A buffer with n bytes for each required cube has room for the words.

@@ -1,11 +1,10 @@
 use mathlib.Core.Path.{subst}
-use Prim.Native.Nat.{_-_}
 use native.Mathlib.Omega.{arith}
-use lib.ListN.{length}
+use lib.ListN.{length-take}
 use Rattle.selection.specs.Select.{Selects}
 use Rattle.minimiser.specs.Answer.{Writable}
 use Rattle.selection.specs.declared.select.Selected.the-variants.{Words}
-use Rattle.minimiser.proofs.Writing.{written-few, written-room, answered-refused, answered-written}
+use Rattle.minimiser.proofs.Writing.{written-room, answered-refused, answered-written}
 use borrow.Author.Needs.{needs}
 use Rattle.minimiser.proofs.write.written.Statement.{statement}
 use Rattle.minimiser.proofs.write.written.Tie as tie
@@ -31,10 +30,7 @@ write-sorted-requires : tie.Need-write-sorted-requires
 write-sorted-requires c κs =
     let s = c .before .before .before .before .before .before .before .before .before in
     let h = room (c .before .before .before .before) in
-    let from = c .before .before .before .before .selected2 .given .0 .0 in
-    let to = c .before .before .before .before .selected2 .given .0 .1 .0 in
-    let p = s .args .products .now in
-    (s .pre .0, written-few p from (to - from) _ (h .2), written-room (s .args .n) p (s .args .cover .now) from (to - from) (h .3), written-few p from (to - from) (length (s .args .scratch .now)) (omega (arith, h .1, s .pre .2)))
+    (s .pre .0, simp length-take (omega (arith, h .2)), written-room (s .args .n) (h .3) (simp length-take (omega arith)), simp length-take (omega (arith, h .1, s .pre .2)))
 
 sub-t11 : tie.Need-sub-t11
 sub-t11 c = search (needs, room (c .before .before .before .before .before .before .before .before .before .before .before))
