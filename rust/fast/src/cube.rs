@@ -47,7 +47,14 @@ const fn low_masks() -> [[[u64; 8]; 8]; 2] {
     masks
 }
 
-/// The bits of a number with a zero after each.
+/// The bytes of the product that has this rank.
+pub fn write_ranked(rank: u32, bytes: &mut [u8]) {
+    for (i, byte) in bytes.iter_mut().enumerate() {
+        *byte = (rank >> (30 - 2 * i) & 3) as u8;
+    }
+}
+
+/// The bits of a number, two places apart.
 fn apart(bits: u16) -> u32 {
     let mut x = u32::from(bits);
     x = (x | x << 8) & 0x00ff_00ff;
@@ -97,15 +104,8 @@ impl Cube {
         ((self.value ^ other.value) | !other.care) & self.care == 0
     }
 
-    /// Its byte for each input: 0, 1, or 2 if it has no literal.
-    pub fn write(self, bytes: &mut [u8]) {
-        for (i, byte) in bytes.iter_mut().enumerate() {
-            let absent = !(self.care >> i) & 1;
-            *byte = (self.value >> i & 1 | absent << 1) as u8;
-        }
-    }
-
-    /// A number that orders products as their bytes do: two bits for each input, its byte, input 0 highest.
+    /// A number that orders products as their bytes do: two bits for each input, its byte (0, 1, or 2 if it has no literal), input 0
+    /// highest.
     pub fn rank(self) -> u32 {
         apart((!self.care).reverse_bits()) << 1 | apart(self.value.reverse_bits())
     }

@@ -1,7 +1,7 @@
 //! The minimiser.
 
 use crate::columns::{columns, lowest_bits};
-use crate::cube::Cube;
+use crate::cube::{write_ranked, Cube};
 use crate::legal::{Grown, Legal};
 use crate::problem::{Problem, Required};
 use crate::refusal::Refusal;
@@ -116,13 +116,13 @@ fn solve<const JOINS: bool>(
             }
         }
     }
-    let mut keep = keeps.iter();
-    products.retain(|_| keep.next() == Some(&true));
-    products.sort_unstable_by_key(|product| product.rank());
-    for (product, bytes) in products.iter().zip(cover.chunks_exact_mut(n)) {
-        product.write(bytes);
+    let chosen = products.iter().zip(&keeps).filter(|(_, &keep)| keep);
+    let mut ranks: Vec<u32> = chosen.map(|(product, _)| product.rank()).collect();
+    ranks.sort_unstable();
+    for (&rank, bytes) in ranks.iter().zip(cover.chunks_exact_mut(n)) {
+        write_ranked(rank, bytes);
     }
-    Ok(products.len())
+    Ok(ranks.len())
 }
 
 /// The cube grown over the required cubes from a place on that are left, where that ends legal.

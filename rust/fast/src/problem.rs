@@ -1,6 +1,6 @@
 //! Checks 1 to 8, the OFF-set, the required and the privileged cubes.
 
-use crate::cube::{lowest, Cube, Set, INPUT};
+use crate::cube::{lowest, write_ranked, Cube, Set, INPUT};
 use crate::planes::planes;
 use crate::refusal::Refusal;
 
@@ -38,7 +38,7 @@ pub fn required_cubes(n: usize, table: &[u8], transitions: &[u16]) -> Result<Vec
     let problem = Problem::read(n, table, transitions)?;
     let mut network = vec![0; n * problem.required.len()];
     for (r, bytes) in problem.required.iter().zip(network.chunks_exact_mut(n)) {
-        r.cube.write(bytes);
+        write_ranked(r.cube.rank(), bytes);
     }
     Ok(network)
 }
