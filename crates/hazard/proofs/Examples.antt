@@ -9,6 +9,7 @@ use Rattle.hazard.specs.Sets.{Required, privileged}
 use Rattle.hazard.specs.Implicant.{dhfImplicant, StrictlyInside}
 use Rattle.hazard.specs.Growth.{Legal, Blocked, Grown, grow}
 use Rattle.hazard.specs.Cover.{Network, WellFormed}
+use Rattle.hazard.specs.Sequence.{ascending}
 use Rattle.hazard.specs.HazardFree.{HazardFree}
 use Rattle.hazard.specs.Refusal.{Accepted}
 use Rattle.hazard.specs.Verdict.{products, passed, uncovered}
@@ -70,6 +71,13 @@ second-blocks =
 -- K4: a dhf-implicant with a product strictly inside it, which is in no minimal network.
 pub strictly-inside : T (dhfImplicant 3 (off table4) (privileged 3 table4 transitions4) (1 ∷ 1 ∷ 2 ∷ [])) × StrictlyInside 3 (1 ∷ 1 ∷ 1 ∷ []) (1 ∷ 1 ∷ 2 ∷ [])
 strictly-inside = (tt, record { within = inside-points 3 (1 ∷ 1 ∷ 1 ∷ []) (1 ∷ 1 ∷ 2 ∷ []) tt tt .0 tt; more = (3, omega arith, tt, λ t. t) })
+
+-- An absent literal comes after both others, though it is printed as a character that would come before; and no product stands twice.
+pub absent-last : T (ascending ((0 ∷ 2 ∷ []) ∷ (1 ∷ 0 ∷ []) ∷ (1 ∷ 2 ∷ []) ∷ (2 ∷ 1 ∷ []) ∷ []))
+absent-last = tt
+
+pub none-twice : ¬ T (ascending ((0 ∷ 2 ∷ []) ∷ (0 ∷ 2 ∷ []) ∷ []))
+none-twice t = t
 
 -- Two privileged cubes are met illegally, and the first gives its start point first: two steps. The other order would take one.
 abbrev tableA : List ℕ

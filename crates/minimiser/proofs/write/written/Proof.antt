@@ -45,5 +45,6 @@ returns-2 c off vs rs h =
     let s = c .before .before .before .before .before .before .before .before .before .before .before .before .before .before .before .before in
     let w = c .before .before .before .before .before .before .write-sorted in
     answered-written (s .args .n) off vs rs (w .last .1 .0) (subst (Selects (s .args .n) off vs rs (s .args .products .now)) (c .before .before .before .before .before .before .before .before .before .before .before .selected2 .given .1) h) (w .ensures .0) (w .ensures .1)
+
 pub written-spec : {M : Type 1} → statement M
 written-spec = tie.close (tie.spec (λ c. search needs) (λ c. search needs) mul-write-sorted sub-write-sorted part-write-sorted-start part-write-sorted-end write-sorted-requires sub-t11 returns (λ c. search needs) (λ c. search needs) (λ c. search needs) returns-2)
