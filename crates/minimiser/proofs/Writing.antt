@@ -22,7 +22,7 @@ use Rattle.sequence.specs.Sorted.{Sorts}
 use Rattle.sequence.specs.Words.{upTo}
 use Rattle.sequence.proofs.Reordered.{reordered-length}
 use Rattle.minimiser.specs.Answer.{Writable, Answered}
-use Rattle.minimiser.proofs.Sorting.{sorted-kept, sorted-sequence}
+use Rattle.minimiser.proofs.Sorting.{reordered-kept, sorted-sequence}
 
 -- As many words stand in a part as its places say.
 pub part-length : (products : List ℕ) {from to : ℕ} → from ≤ to → to ≤ length products → length (take (to - from) (drop from products)) ≡ to - from
@@ -52,8 +52,8 @@ module _ (n : ℕ) (off : ℕ → Bool) (vs : List Privileged) (rs : List Requir
         refused = λ p i. none-some (sym (h .free) ∙ i);
         network = λ i. record {
           words = words;
-          kept = sorted-kept (h .kept) s;
-          sequence = sorted-sequence (h .kept) s;
+          kept = reordered-kept (h .kept) (s .same);
+          sequence = sorted-sequence (h .kept) (s .same) (s .sorted);
           size = ap written (sym (part-length products (h .low) (h .high)) ∙ reordered-length (s .same));
           is = e;
         };
