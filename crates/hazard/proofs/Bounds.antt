@@ -1,5 +1,6 @@
 -- How large the fields of an answer can be.
 use mathlib.Core.Path.{_≡_, refl, sym, ap, subst}
+use mathlib.Core.Logic.{inl, inr}
 use mathlib.Core.Bool.{Bool, true, false, not, _&&_, _||_}
 use mathlib.Core.List.{List, [], _∷_, _++_, List·Memᴰ, List·Memᴰ·not-nil, List·Memᴰ·eq-of-singleton}
 use mathlib.Core.Option.{Option, none, some, Option·map, Option·some-injective, map-eq-some-iff}
@@ -20,7 +21,7 @@ use Rattle.hazard.specs.Verdict.{products, productsCheck, digitsCheck, n
 use Rattle.hazard.specs.Minimal.{blockedBy, blockCheck, roomCheck, blocking, minimiserChecks, Minimal}
 use Rattle.hazard.proofs.Search.{none-some, first-some, place-some, those-e, firstOf-none, entries, firstOf-append, firstOf-some}
 use Rattle.hazard.proofs.Rules.{inputs-few, length-whole, list-few, few-inputs, list-length, points, required-few}
-use Rattle.hazard.proofs.Sets.{required-e, required-digits, privileged-e, privileged-wide}
+use Rattle.hazard.proofs.Sets.{transition-e, point-e, required-cases, required-digits, privileged-e, privileged-wide}
 use Rattle.hazard.proofs.Growth.{Ends, blocked, grow-steps, grow-ends}
 use Rattle.hazard.proofs.Verdict.{products-length, products-fit, Named, none-named, zero-named, illegal-named, cube-named, fault-named, checked-accepted}
 
@@ -70,14 +71,20 @@ points-few : {n : ℕ} → n ≤ 10 → 2 ^ n ≤ 1024
 points-few h = pow-mono {j = 10} h
 
 module _ (n : ℕ) (f ts : List ℕ) (accepted : Accepted n f ts) where
-  -- A required cube names one of the transitions, and a point.
-  pub required-bounds : (r : Required) → List·Memᴰ r (required n f ts) → (r .transition < count ts) × (r .label < 2 ^ n)
-  required-bounds r m =
-      let (k, x, l, h, e) = required-e n f ts m in
-      let b = label-point n f (kindAt f ts k) (start ts k) (end ts k) (points n f ts accepted k l .1) h in
-      let t : k ≡ r .transition = ap (λ (q : Required). q .transition) e in
-      let p : x ≡ r .label = ap (λ (q : Required). q .label) e in
-      (omega arith, omega arith)
+  -- A required cube names one of the transitions, or their number, and a point.
+  pub required-bounds : (r : Required) → List·Memᴰ r (required n f ts) → (r .transition ≤ count ts) × (r .label < 2 ^ n)
+  required-bounds r m = elim (required-cases n f ts m) [
+    | inl u ↦ let (k, x, l, h, e) = transition-e n f ts u in
+        let b = label-point n f (kindAt f ts k) (start ts k) (end ts k) (points n f ts accepted k l .1) h in
+        (omega (arith, transition-of e), omega (arith, label-of e))
+    | inr u ↦ let (x, l, t, e) = point-e n f ts u in (omega (arith, transition-of e), omega (arith, label-of e))
+  ]
+    where
+      transition-of : {q r : Required} → q ≡ r → q .transition ≡ r .transition
+      transition-of e = ap (λ (q : Required). q .transition) e
+
+      label-of : {q r : Required} → q ≡ r → q .label ≡ r .label
+      label-of e = ap (λ (q : Required). q .label) e
 
   pub privileged-bounds : (v : Privileged) → List·Memᴰ v (privileged n f ts) → v .transition < count ts
   privileged-bounds v m =
@@ -91,7 +98,7 @@ module _ (n : ℕ) (f ts : List ℕ) (accepted : Accepted n f ts) where
       let vs = privileged-wide n f ts in
       go r (required-bounds r m) (grow n (off f) (privileged n f ts) (r .cube)) (grow-steps n (off f) (privileged n f ts) vs w) (grow-ends n (off f) (privileged n f ts) vs w) h
     where
-      go : (r : Required) → (r .transition < count ts) × (r .label < 2 ^ n) → (g : Growth) → steps g ≤ n → Ends n (off f) (privileged n f ts) (r .cube) g → blockedBy r g ≡ some q → Bounded 1 q
+      go : (r : Required) → (r .transition ≤ count ts) × (r .label < 2 ^ n) → (g : Growth) → steps g ≤ n → Ends n (off f) (privileged n f ts) (r .cube) g → blockedBy r g ≡ some q → Bounded 1 q
       go r b (Legal c s) l u h = none-some h
       go r b (Blocked z s) l (blocked i k z< d o) h =
           let few = few-inputs n f ts accepted .1 in

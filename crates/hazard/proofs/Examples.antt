@@ -12,7 +12,7 @@ use Rattle.hazard.specs.Cover.{Network, WellFormed}
 use Rattle.hazard.specs.Sequence.{ascending}
 use Rattle.hazard.specs.HazardFree.{HazardFree}
 use Rattle.hazard.specs.Refusal.{Accepted}
-use Rattle.hazard.specs.Verdict.{products, passed, uncovered}
+use Rattle.hazard.specs.Verdict.{products, passed, uncovered, verdict}
 use Rattle.hazard.specs.Minimal.{FirstBlocking}
 use Rattle.hazard.specs.Pieces.{net5}
 use Rattle.hazard.proofs.Search.{none-some}
@@ -42,6 +42,20 @@ hazard-free-network = checked-passed 3 table4 transitions4 (1 ∷ 2 ∷ 0 ∷ 2 
 pub hazardous-network : ¬ HazardFree 3 table4 transitions4 (products 3 net5)
 hazardous-network h = let e : uncovered 0 7 ≡ passed = checked-passed 3 table4 transitions4 net5 refl .1 h in let z : _≡_ {A = ℕ} 0 1 = cc in omega arith
 
+-- K4 with 112 alone: points 1 and 6, which no transition visits, are left, and the first is named with the number of transitions.
+pub point-uncovered : verdict 3 table4 transitions4 (1 ∷ 1 ∷ 2 ∷ []) ≡ uncovered 1 1
+point-uncovered = refl
+
+-- The same where point 0, the default of a list's end, is such a 1; where it is one and covered; and where it is a 0.
+pub point-0-uncovered : verdict 2 (1 ∷ 0 ∷ 0 ∷ 1 ∷ []) (1 ∷ 1 ∷ []) [] ≡ uncovered 1 0
+point-0-uncovered = refl
+
+pub point-3-uncovered : verdict 2 (1 ∷ 0 ∷ 0 ∷ 1 ∷ []) (1 ∷ 1 ∷ []) (0 ∷ 0 ∷ []) ≡ uncovered 1 3
+point-3-uncovered = refl
+
+pub point-3-alone : verdict 2 (0 ∷ 0 ∷ 0 ∷ 1 ∷ []) (1 ∷ 1 ∷ []) [] ≡ uncovered 1 3
+point-3-alone = refl
+
 -- K7: a table and transitions, free of function hazards, with no hazard-free network.
 pub no-network : Accepted 3 table7 transitions7 × (¬ ((net : Network) × WellFormed 3 net × HazardFree 3 table7 transitions7 net))
 no-network = (refl, λ h. none-some (sym (exists-iff 3 table7 transitions7 refl .1 h)))
@@ -64,6 +78,7 @@ second-blocks =
       listed = refl;
       free = λ r m. subst⁻¹ (λ (q : Required). Grown (grow 3 (off table7) (privileged 3 table7 (2 ∷ 2 ∷ transitions7)) (q .cube))) (List·Memᴰ·eq-of-singleton m) tt;
       blocks = refl;
+      among = omega arith;
       taken = omega arith;
       few = omega arith;
     }

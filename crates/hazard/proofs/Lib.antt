@@ -11,6 +11,7 @@ pub mod Numbers
 pub mod Sets
 pub mod Monotone
 pub mod Source
+pub mod Reading
 -- Dhf-implicants, growth, expansion, choice.
 pub mod Implicant
 pub mod Growth
@@ -18,6 +19,7 @@ pub mod Expansion
 pub mod Network
 pub mod Sequence
 pub mod Existence
+pub mod Single
 pub mod Choice
 -- Runs of wires, and the theorem.
 pub mod Wire
@@ -25,9 +27,11 @@ pub mod Trace
 pub mod View
 pub mod Moment
 pub mod Label
+pub mod One
 pub mod Transition
 pub mod Theorem
 pub mod Verdict
+pub mod Blocking
 pub mod Minimal
 pub mod Promise
 pub mod Bounds

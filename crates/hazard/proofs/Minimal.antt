@@ -1,35 +1,34 @@
 -- Demand 3 of document 01: what the choice gives, when there is a network at all, and what no product of a minimal network can do without.
-use mathlib.Core.Path.{_≡_, refl, sym, ap}
+use mathlib.Core.Path.{_≡_}
 use mathlib.Core.Logic.{_↔_, _≢_, inl, inr, ∥∥₁-elim}
 use mathlib.Core.HLevel.{⊥-prop}
-use mathlib.Core.Bool.{Bool, not, _&&_}
+use mathlib.Core.Bool.{not}
 use mathlib.Core.List.{List, [], _∷_, List·Memᴰ, List·Mem, List·Nodup, Pairwise·nil, Pairwise·cons}
-use mathlib.Core.Option.{Option, none, some, Option·some-injective}
-use Prim.Native.Nat.{ℕ, zero, suc, _^_, _≤_}
+use mathlib.Core.Option.{Option, none, some}
+use Prim.Native.Nat.{ℕ, zero, suc, _≤_}
 use native.Mathlib.Omega.{arith}
 use lib.Dec.{T}
 use lib.ListN.{length}
 use Rattle.hazard.specs.Search.{find}
-use Rattle.hazard.specs.Cube.{Cube, has, inside}
+use Rattle.hazard.specs.Cube.{Cube, inside}
 use Rattle.hazard.specs.Transition.{off}
-use Rattle.hazard.specs.Sets.{Required, Privileged, required, privileged}
-use Rattle.hazard.specs.Implicant.{lowestZero, DhfPrime}
-use Rattle.hazard.specs.Growth.{Growth, Legal, Blocked, steps, Grown, grow}
+use Rattle.hazard.specs.Sets.{Required, required, privileged}
+use Rattle.hazard.specs.Implicant.{DhfPrime}
 use Rattle.hazard.specs.Cover.{Network, productAt, WellFormed, covered, without, Own, Irredundant, HazardFreeCover}
 use Rattle.hazard.specs.HazardFree.{HazardFree}
-use Rattle.hazard.specs.Refusal.{Refusal, Accepted}
+use Rattle.hazard.specs.Refusal.{Accepted}
 use Rattle.hazard.specs.Sequence.{ascending}
-use Rattle.hazard.specs.Minimal.{blockedBy, blockCheck, blocking, FirstBlocking, Minimal}
-use Rattle.hazard.proofs.Test.{tests, or-l, or-r, or-e, T-no, sure}
-use Rattle.hazard.proofs.Search.{none-some, none-first, firstOf-map, firstOf-split, firstOf-some, Find, missing, hit, find-is}
+use Rattle.hazard.specs.Minimal.{blockCheck, blocking, Minimal}
+use Rattle.hazard.proofs.Test.{or-l, or-r, or-e, T-no, sure}
+use Rattle.hazard.proofs.Search.{firstOf-map, Find, missing, hit, find-is}
 use Rattle.hazard.proofs.Meaning.{inside-points}
 use Rattle.hazard.proofs.Sets.{privileged-wide, required-digits}
 use Rattle.hazard.proofs.Network.{without-member, covered-by}
-use Rattle.hazard.proofs.Implicant.{Wide, prime-is}
-use Rattle.hazard.proofs.Growth.{Grows, blocked-later, grow-runs, grow-steps}
+use Rattle.hazard.proofs.Implicant.{prime-is}
 use Rattle.hazard.proofs.Existence.{dhf-cover, cover-exists}
-use Rattle.hazard.proofs.Source.{required-ones}
-use Rattle.hazard.proofs.Theorem.{cover-hazard-free}
+use Rattle.hazard.proofs.Single.{cover-transitions}
+use Rattle.hazard.proofs.Theorem.{VisitedHazardFree, hazard-free-visited, visited→cover, cover-hazard-free}
+use Rattle.hazard.proofs.Blocking.{block-none}
 
 -- What the network covers and its rest does not lies in the product left out.
 pub without-covered : (j : ℕ) (net : Network) (c : Cube) → T (covered net c) → ¬ T (covered (without j net) c) → T (inside c (productAt net j))
@@ -52,14 +51,6 @@ irredundant-nodup rs (p ∷ net) h = Pairwise·cons (λ q m. other q m) (irredun
     other : (q : Cube) → List·Mem q net → p ≢ q
     other q m e = ∥∥₁-elim m ⊥-prop (λ d. let o = h 0 (omega arith) in o .alone (covered-by (o .cube .cube) d (rw e at (o .mine))))
 
--- A growth that ends blocked is refusal 10, and no other.
-pub block-none : (n : ℕ) (off : ℕ → Bool) (vs : List Privileged) (r : Required) → (blockCheck n off vs r ≡ none) ↔ Grown (grow n off vs (r .cube))
-block-none n off vs r = go (grow n off vs (r .cube))
-  where
-    go : (g : Growth) → (blockedBy r g ≡ none) ↔ Grown g
-    go (Legal c s) = (λ e. tt, λ t. refl)
-    go (Blocked z s) = (λ e. none-some (sym e), λ t. absurd t)
-
 module _ (n : ℕ) (f ts : List ℕ) where
   -- No required cube blocks exactly if there is a hazard-free cover.
   pub cover-iff : (blocking n f ts ≡ none) ↔ ((net : Network) × WellFormed n net × HazardFreeCover n f ts net)
@@ -76,42 +67,14 @@ module _ (n : ℕ) (f ts : List ℕ) where
       λ h. let (net, w, q) = h in cover-iff .1 (net, w, cover-hazard-free n f ts net accepted w .1 q),
     )
 
-    -- A required cube contains no zero, so one that blocks has taken at least one step; and at most n.
-    pub block-steps : (q : Refusal) → blocking n f ts ≡ some q → (1 ≤ q .steps) × (q .steps ≤ n)
-    block-steps q e =
-        let (r, m, h) = firstOf-some (blockCheck n (off f) (privileged n f ts)) (required n f ts) e in
-        let w = required-digits n f ts r m in
-        go r (grow n (off f) vs (r .cube)) (grow-runs n (off f) vs wide w) (grow-steps n (off f) vs wide w) (free r m) h
-      where
-        vs : List Privileged
-        vs = privileged n f ts
-
-        wide : Wide n vs
-        wide = privileged-wide n f ts
-
-        free : (r : Required) → List·Memᴰ r (required n f ts) → lowestZero n (off f) (r .cube) ≡ none
-        free r m = none-first (λ x. has (r .cube) x && off f x) 0 (2 ^ n)
-            (λ x a b t. let (h, o) = simp tests at t in omega (arith, required-ones n f ts accepted r m x (omega arith) h))
-
-        go : (r : Required) (g : Growth) → Grows n (off f) vs (r .cube) 0 g → steps g ≤ n → lowestZero n (off f) (r .cube) ≡ none → blockedBy r g ≡ some q → (1 ≤ q .steps) × (q .steps ≤ n)
-        go r (Legal c s) u l k h = none-some h
-        go r (Blocked z s) u l k h = let e : s ≡ q .steps = ap (λ (x : Refusal). x .steps) (Option·some-injective _ _ h) in (omega (arith, blocked-later n (off f) vs k u), omega arith)
-
-    -- The cube that blocks is the first that does.
-    pub first-blocking : (q : Refusal) → blocking n f ts ≡ some q → FirstBlocking n f ts q
-    first-blocking q e =
-        let s = firstOf-split (blockCheck n (off f) (privileged n f ts)) (required n f ts) e in
-        let (l, h) = block-steps q e in
-        record {
-          earlier = s .earlier;
-          cube = s .entry;
-          later = s .later;
-          listed = s .parts;
-          free = λ r m. block-none n (off f) (privileged n f ts) r .0 (s .before r m);
-          blocks = s .here;
-          taken = l;
-          few = h;
-        }
+    -- The 1s that no transition visits change nothing of that: a hazard-free network exists exactly if one exists with nothing asked there.
+    pub exists-visited : ((net : Network) × WellFormed n net × VisitedHazardFree n f ts net) ↔ ((net : Network) × WellFormed n net × HazardFree n f ts net)
+    exists-visited = (
+      λ h. let (net, w, v) = h in
+          let (all, good, c) = cover-transitions n f ts .0 (net, w, visited→cover n f ts net accepted w v) in
+          (all, good, cover-hazard-free n f ts all accepted good .0 c),
+      λ h. (h .0, h .1, hazard-free-visited (h .2)),
+    )
 
     -- Dhf-primes in sequence that cover every required cube, each with one of its own, meet the whole of demand 3.
     pub minimal : (net : Network) → ((p : Cube) → List·Memᴰ p net → DhfPrime n (off f) (privileged n f ts) p) → ((r : Required) → List·Memᴰ r (required n f ts) → T (covered net (r .cube)))

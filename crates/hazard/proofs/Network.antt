@@ -77,6 +77,12 @@ covered-joint n net good p q = (
   λ r. covered-i net (span n p q) (r .0) (r .1) (ends-i n p q (good (r .0) (r .1)) (r .2) (r .3)),
 )
 
+-- It covers a single point exactly if it gives 1 there.
+pub covered-point : (n : ℕ) (net : Network) → Products n net → (x : ℕ) → T (covered net (span n x x)) ↔ T (gives net x)
+covered-point n net good x =
+    let c = covered-joint n net good x x in
+    (λ t. let (j, l, i, k) = c .0 t in gives-i net x j l i, λ t. let (j, l, i) = gives-e net x t in c .1 (j, l, i, i))
+
 -- By entries in place of places.
 pub covered-entry : (net : Network) (c : Cube) → T (covered net c) → (p : Cube) × List·Memᴰ p net × T (inside c p)
 covered-entry net c t = let (j, l, u) = covered-e net c t in (productAt net j, entry-at net j l, u)

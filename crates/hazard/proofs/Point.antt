@@ -95,6 +95,10 @@ in-swap n p q x h i l e = e ∙ h i l (sym e)
 pub span-swap : (n a b x : ℕ) → T (has (span n a b) x) → T (has (span n b a) x)
 span-swap n a b x t = in-i n b a x (in-swap n a b x (in-e n a b x t))
 
+-- [P,P] is the point P alone.
+pub span-self : (n p x : ℕ) → p < 2 ^ n → x < 2 ^ n → T (has (span n p p) x) → p ≡ x
+span-self n p x l m t = bits-same n p x l m (λ i b. in-e n p p x t i b refl)
+
 -- A cube contains [P,Q] exactly if it contains P and Q, and then every point between.
 pub ends-e : (n p q : ℕ) (c : Cube) → T (inside (span n p q) c) → T (has c p) × T (has c q)
 ends-e n p q c t = (→has (inside-has (inside→ (span n p q) c t) (span-left n p q)), →has (inside-has (inside→ (span n p q) c t) (span-right n p q)))

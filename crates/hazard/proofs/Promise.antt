@@ -11,7 +11,8 @@ use Rattle.hazard.specs.Refusal.{Refusal, inputChecks, Accepted}
 use Rattle.hazard.specs.Minimal.{roomCheck, blocking, minimiserChecks, Minimal, written, declined, bytesOf, Promise}
 use Rattle.hazard.proofs.Search.{none-some, firstOf-append, firstOf-right, firstOf-one}
 use Rattle.hazard.proofs.Numbers.{block-number, ten-blocks}
-use Rattle.hazard.proofs.Minimal.{exists-iff, first-blocking}
+use Rattle.hazard.proofs.Blocking.{first-blocking}
+use Rattle.hazard.proofs.Minimal.{exists-iff}
 
 module _ (n : ℕ) (f ts before : List ℕ) where
   abbrev early : List (Option Refusal)

@@ -184,6 +184,11 @@ firstOf-right [] m e = refl
 firstOf-right (none ∷ l) m e = firstOf-right l m e
 firstOf-right (some b ∷ l) m e = none-some (sym e)
 
+pub firstOf-rest : {A : Type 0} (l m : List (Option A)) → firstOf m ≡ none → firstOf (l ++ m) ≡ firstOf l
+firstOf-rest [] m e = e
+firstOf-rest (none ∷ l) m e = firstOf-rest l m e
+firstOf-rest (some b ∷ l) m e = refl
+
 -- Two lists of searches find nothing exactly if each finds nothing.
 pub firstOf-append : {A : Type 0} (l m : List (Option A)) → (firstOf (l ++ m) ≡ none) ↔ ((firstOf l ≡ none) × (firstOf m ≡ none))
 firstOf-append [] m = (λ e. (refl, e), λ e. e .1)

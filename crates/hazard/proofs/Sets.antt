@@ -1,7 +1,7 @@
 -- The entries of the lists of required and of privileged cubes, and their order.
 use mathlib.Core.Path.{_≡_, refl, sym, ap, subst, subst⁻¹}
 use mathlib.Core.HLevel.{×-prop, →-prop}
-use mathlib.Core.Logic.{inl, inr, ∥∥₁-elim}
+use mathlib.Core.Logic.{_⊎_, inl, inr, ∥∥₁-elim}
 use mathlib.Core.Bool.{Bool, true, false}
 use mathlib.Core.List.{List, _∷_, List·Memᴰ, List·Memᴰ·head, List·Memᴰ·tail, List·Memᴰ·not-nil, List·Memᴰ·cases-cons, List·Memᴰ·append-cases, Memᴰ·append-left, Memᴰ·append-right, Memᴰ·map, Memᴰ·of-map, Pairwise, Pairwise·nil, Pairwise·cons, Pairwise·map, pairwise-append, pairwise-singleton}
 use Prim.Native.Nat.{ℕ, zero, suc, _+_, _^_, _≤_, _<_}
@@ -9,13 +9,25 @@ use native.Mathlib.Omega.{arith}
 use native.Mathlib.Bridge.{le-prop}
 use native.Mathlib.Decide.{ℕ-discrete}
 use lib.Dec.{T}
+use Rattle.hazard.specs.Search.{those}
 use Rattle.hazard.specs.Cube.{span}
-use Rattle.hazard.specs.Transition.{start, end, count, Kind, low, rise, fall, high}
-use Rattle.hazard.specs.Sets.{Required, Privileged, maximalLabel, labels, dynamic, kindAt, startAt, requiredOf, requiredFrom, required, privilegedFrom, privileged}
+use Rattle.hazard.specs.Transition.{start, end, count, visits, visited, Kind, low, rise, fall, high}
+use Rattle.hazard.specs.Sets.{Required, Privileged, maximalLabel, labels, dynamic, kindAt, startAt, requiredOf, requiredFrom, ofTransitions, unvisited, ofPoints, required, privilegedFrom, privileged}
 use Rattle.hazard.proofs.Test.{so, so-not}
-use Rattle.hazard.proofs.Search.{those-order}
+use Rattle.hazard.proofs.Search.{any-e, any-i, those-e, those-i, those-order}
 use Rattle.hazard.proofs.Cube.{Digits, span-digits}
 use Rattle.hazard.proofs.Implicant.{Wide}
+
+-- A visited point has a transition that visits it.
+pub visited-e : (n : ℕ) (ts : List ℕ) (x : ℕ) → T (visited n ts x) → (k : ℕ) × (k < count ts) × T (visits n ts k x)
+visited-e n ts x t = any-e (λ k. visits n ts k x) (count ts) t
+
+pub visited-i : (n : ℕ) (ts : List ℕ) (x k : ℕ) → k < count ts → T (visits n ts k x) → T (visited n ts x)
+visited-i n ts x k l t = any-i (λ k. visits n ts k x) (count ts) k l t
+
+-- The single point x.
+abbrev pub pointAt : ℕ → List ℕ → ℕ → Required
+pointAt n ts x = record { transition = count ts; label = x; cube = span n x x }
 
 module _ (n : ℕ) (f ts : List ℕ) where
   -- The labels of transition k, and its required cube with the label x.
@@ -46,14 +58,39 @@ module _ (n : ℕ) (f ts : List ℕ) where
         | inr u ↦ let w = requiredFrom-e (suc from) m u in (w .0, w .1, omega (arith, w .2), omega (arith, w .3), w .4, w .5)
       ]
 
-  pub required-i : (k x : ℕ) → k < count ts → List·Memᴰ x (labelsAt k) → List·Memᴰ (requiredAt k x) (required n f ts)
-  required-i k x l t = requiredFrom-i 0 (count ts) k x (omega arith) (omega arith) t
+  -- The required cubes of the transitions.
+  pub transition-i : (k x : ℕ) → k < count ts → List·Memᴰ x (labelsAt k) → List·Memᴰ (requiredAt k x) (ofTransitions n f ts)
+  transition-i k x l t = requiredFrom-i 0 (count ts) k x (omega arith) (omega arith) t
 
-  pub required-e : {r : Required} → List·Memᴰ r (required n f ts) → (k : ℕ) × (x : ℕ) × (k < count ts) × List·Memᴰ x (labelsAt k) × (requiredAt k x ≡ r)
-  required-e t = let w = requiredFrom-e 0 (count ts) t in (w .0, w .1, omega (arith, w .3), w .4, w .5)
+  pub transition-e : {r : Required} → List·Memᴰ r (ofTransitions n f ts) → (k : ℕ) × (x : ℕ) × (k < count ts) × List·Memᴰ x (labelsAt k) × (requiredAt k x ≡ r)
+  transition-e t = let w = requiredFrom-e 0 (count ts) t in (w .0, w .1, omega (arith, w .3), w .4, w .5)
+
+  -- The single points.
+  pub point-i : (x : ℕ) → x < 2 ^ n → T (unvisited n f ts x) → List·Memᴰ (pointAt n ts x) (ofPoints n f ts)
+  point-i x l t = Memᴰ·map (pointAt n ts) (those-i (unvisited n f ts) 0 (2 ^ n) x (omega arith) (omega arith) t)
+
+  pub point-e : {r : Required} → List·Memᴰ r (ofPoints n f ts) → (x : ℕ) × (x < 2 ^ n) × T (unvisited n f ts x) × (pointAt n ts x ≡ r)
+  point-e t =
+      let (x, m, e) = Memᴰ·of-map (pointAt n ts) (those (unvisited n f ts) 0 (2 ^ n)) t in
+      let w = those-e (unvisited n f ts) 0 (2 ^ n) m in
+      (x, omega (arith, w .1), w .2, e)
+
+  -- A required cube is one or the other.
+  pub required-transition : {r : Required} → List·Memᴰ r (ofTransitions n f ts) → List·Memᴰ r (required n f ts)
+  required-transition t = Memᴰ·append-left (ofPoints n f ts) t
+
+  pub required-point : {r : Required} → List·Memᴰ r (ofPoints n f ts) → List·Memᴰ r (required n f ts)
+  required-point t = Memᴰ·append-right (ofTransitions n f ts) t
+
+  pub required-cases : {r : Required} → List·Memᴰ r (required n f ts) → List·Memᴰ r (ofTransitions n f ts) ⊎ List·Memᴰ r (ofPoints n f ts)
+  required-cases t = List·Memᴰ·append-cases (ofTransitions n f ts) t
 
   pub required-digits : (r : Required) → List·Memᴰ r (required n f ts) → Digits n (r .cube)
-  required-digits r t = let w = required-e t in subst (λ (q : Required). Digits n (q .cube)) (w .4) (span-digits n (startAt f ts (w .0)) (w .1))
+  required-digits r t =
+      elim (required-cases t) [
+        | inl u ↦ let w = transition-e u in subst (λ (q : Required). Digits n (q .cube)) (w .4) (span-digits n (startAt f ts (w .0)) (w .1))
+        | inr u ↦ let w = point-e u in subst (λ (q : Required). Digits n (q .cube)) (w .3) (span-digits n (w .0) (w .0))
+      ]
 
   privilegedFrom-i : (from m k : ℕ) → from ≤ k → k < from + m → T (dynamic (kindAt f ts k)) → List·Memᴰ (privilegedAt k) (privilegedFrom n f ts from m)
   privilegedFrom-i from zero k l h t = absurd (omega arith)
@@ -130,6 +167,19 @@ module _ (n : ℕ) (f ts : List ℕ) where
           let j : v .0 ≡ s .transition = ap (λ (q : Required). q .transition) (v .5) in
           (omega (arith, v .2), λ c. absurd (omega (arith, v .2)))
 
-  -- The required cubes stand in order of transition, then of label.
+  -- The required cubes stand in order of transition, then of label, the single points after all others.
   pub required-order : Pairwise Before (required n f ts)
-  required-order = requiredFrom-order 0 (count ts)
+  required-order =
+      pairwise-append before-prop .1 (
+        requiredFrom-order 0 (count ts),
+        Pairwise·map {S = Before} before-prop (pointAt n ts) (λ x y l. (omega arith, λ e. l)) (those-order (unvisited n f ts) 0 (2 ^ n)),
+        λ r t s u. ∥∥₁-elim t (before-prop r s) (λ d. ∥∥₁-elim u (before-prop r s) (λ e. later r s d e)),
+      )
+    where
+      later : (r s : Required) → List·Memᴰ r (ofTransitions n f ts) → List·Memᴰ s (ofPoints n f ts) → Before r s
+      later r s d e =
+          let (k, x, l, m, g) = transition-e n f ts d in
+          let (y, b, t, h) = point-e n f ts e in
+          let i : k ≡ r .transition = ap (λ (q : Required). q .transition) g in
+          let j : count ts ≡ s .transition = ap (λ (q : Required). q .transition) h in
+          (omega arith, λ c. absurd (omega arith))

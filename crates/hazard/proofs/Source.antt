@@ -12,17 +12,17 @@ use lib.ListN.{length, List·getD-eq-default}
 use Rattle.hazard.specs.Search.{those}
 use Rattle.hazard.specs.Cube.{Cube, bit, flip, has, span, meets, inside}
 use Rattle.hazard.specs.Transition.{value, off, start, end, count, Kind, low, rise, fall, high, kindOf, kind, further, functionHazard, functionHazardAt}
-use Rattle.hazard.specs.Sets.{Required, Privileged, maximalLabel, labels, startPoint, dynamic, kindAt, required, privileged}
-use Rattle.hazard.specs.Cover.{Network, productAt, WellFormed, HazardFreeCover}
+use Rattle.hazard.specs.Sets.{Required, Privileged, maximalLabel, labels, startPoint, dynamic, kindAt, unvisited, required, privileged}
+use Rattle.hazard.specs.Cover.{Network, WellFormed, HazardFreeCover}
 use Rattle.hazard.specs.Refusal.{Accepted}
-use Rattle.hazard.specs.Source.{StaticHazard, DynamicHazard, OneOn, MaximalOn, SourceLabel, SourceRequired, stays, falls, rises, SourcePrivileged, SourceOff, Trivial, SourceCover}
+use Rattle.hazard.specs.Source.{StaticHazard, DynamicHazard, OneOn, MaximalOn, SourceLabel, SourceRequired, stays, falls, rises, UnvisitedOne, RequiredCube, ofTransition, ofPoint, SourcePrivileged, SourceOff, Trivial, SourceCover}
 use Rattle.hazard.proofs.Test.{tests, known, T-and, T-no, eqb-of}
 use Rattle.hazard.proofs.Search.{first-none, none-first, those-e, those-i}
 use Rattle.hazard.proofs.Cube.{digits→, →has, meets→, span-digits, span-left, span-right}
-use Rattle.hazard.proofs.Point.{In, in-e, in-i, span-swap, ends-e, ends-i, between, flip-same, flip-other, flip-lt}
-use Rattle.hazard.proofs.Sets.{required-i, required-e, privileged-i, privileged-e, privileged-wide}
+use Rattle.hazard.proofs.Point.{In, in-e, in-i, span-swap, span-self, ends-e, ends-i, between, flip-same, flip-other, flip-lt}
+use Rattle.hazard.proofs.Sets.{visited-e, visited-i, labelsAt, requiredAt, pointAt, transition-i, transition-e, point-i, point-e, required-transition, required-point, required-cases, privileged-i, privileged-e, privileged-wide}
 use Rattle.hazard.proofs.Rules.{EndValues, end-values, RulesAt, table-length, rules-at}
-use Rattle.hazard.proofs.Network.{entry-at, covered-e, covered-by}
+use Rattle.hazard.proofs.Network.{covered-entry, covered-by}
 use Rattle.hazard.proofs.Monotone.{Moves, move-in, move-rest, move-past, further-e, further-i, turns-e, Defined, Steady, rise-fall, kept-on}
 
 -- A fall from s to e: no 0 has a 1 one move further.
@@ -138,18 +138,24 @@ module _ (n : ℕ) (f : List ℕ) (a b : ℕ) where
   words-privileged k h c s (rises p q) = let e = ends-kind k h p q in subst⁻¹ (λ (j : Kind). T (dynamic j) × (span n a b ≡ span n a b) × (b ≡ startPoint j a b)) e (tt, refl, refl)
 
 module _ (n : ℕ) (f ts : List ℕ) (accepted : Accepted n f ts) where
-  -- The required cubes are the source's, all of them and no others.
-  pub required-source : (r : Required)
-      → List·Memᴰ r (required n f ts) ↔ ((r .transition < count ts) × SourceRequired n f (start ts (r .transition)) (end ts (r .transition)) (r .cube) (r .label))
-  required-source r = (
-    λ m. let (k, x, l, u, e) = required-e n f ts m in
-        subst (λ (q : Required). (q .transition < count ts) × SourceRequired n f (start ts (q .transition)) (end ts (q .transition)) (q .cube) (q .label)) e
-        (l, required-words n f (start ts k) (end ts k) (kindAt f ts k) (rules-at n f ts accepted k l) x (labels-accepted n f ts accepted k l x .0 u)),
-    λ h. let k = r .transition in
-        let (l, s) = h in
-        let (u, e) = words-required n f (start ts k) (end ts k) (kindAt f ts k) (rules-at n f ts accepted k l) (r .cube) (r .label) s in
-        Memᴰ·cast (ap (λ (c : Cube). record { transition = k; label = r .label; cube = c }) e) (required-i n f ts k (r .label) l (labels-accepted n f ts accepted k l (r .label) .1 u)),
-  )
+  -- The required cubes are the source's and the 1s that lie in no [A,B], all of them and no others.
+  pub required-source : (r : Required) → List·Memᴰ r (required n f ts) ↔ RequiredCube n f ts r
+  required-source r = (λ m. elim (required-cases n f ts m) [ inl u ↦ transition-words (transition-e n f ts u) | inr u ↦ point-words (point-e n f ts u) ], listed)
+    where
+      transition-words : {r : Required} → (k : ℕ) × (x : ℕ) × (k < count ts) × List·Memᴰ x (labelsAt n f ts k) × (requiredAt n f ts k x ≡ r) → RequiredCube n f ts r
+      transition-words (k, x, l, u, e) =
+          subst (RequiredCube n f ts) e
+          (ofTransition l (required-words n f (start ts k) (end ts k) (kindAt f ts k) (rules-at n f ts accepted k l) x (labels-accepted n f ts accepted k l x .0 u)))
+
+      point-words : {r : Required} → (x : ℕ) × (x < 2 ^ n) × T (unvisited n f ts x) × (pointAt n ts x ≡ r) → RequiredCube n f ts r
+      point-words (x, l, t, e) =
+          let u = simp tests at t in subst (RequiredCube n f ts) e (ofPoint (record { point = l; one = u .0; outside = λ k h v. u .1 (visited-i n ts x k h v) }))
+
+      listed : {r : Required} → RequiredCube n f ts r → List·Memᴰ r (required n f ts)
+      listed (ofTransition {k = k} {x = x} {q = q} l s) =
+          let (u, e) = words-required n f (start ts k) (end ts k) (kindAt f ts k) (rules-at n f ts accepted k l) q x s in
+          Memᴰ·cast (ap (λ (c : Cube). record { transition = k; label = x; cube = c }) e) (required-transition n f ts (transition-i n f ts k x l (labels-accepted n f ts accepted k l x .1 u)))
+      listed (ofPoint {x = x} o) = required-point n f ts (point-i n f ts x (o .point) (simp tests (o .one, λ t. let (k, l, u) = visited-e n ts x t in o .outside k l u)))
 
   -- So are the privileged cubes,
   pub privileged-source : (v : Privileged)
@@ -182,9 +188,12 @@ label-ones n f a b high h x s y l t =
     let ne : value f y ≢ 0 = λ z. h .kept y l u (eqb-of z) in omega arith
 
 pub required-ones : (n : ℕ) (f ts : List ℕ) → Accepted n f ts → (r : Required) → List·Memᴰ r (required n f ts) → (y : ℕ) → y < 2 ^ n → T (has (r .cube) y) → value f y ≡ 1
-required-ones n f ts accepted r m y l t =
-    let (k, x, h, u, e) = required-e n f ts m in
-    label-ones n f (start ts k) (end ts k) (kindAt f ts k) (rules-at n f ts accepted k h) x (labels-accepted n f ts accepted k h x .0 u) y l (subst⁻¹ (λ (q : Required). T (has (q .cube) y)) e t)
+required-ones n f ts accepted r m y l t = elim (required-cases n f ts m) [
+  | inl u ↦ let (k, x, h, v, e) = transition-e n f ts u in
+      label-ones n f (start ts k) (end ts k) (kindAt f ts k) (rules-at n f ts accepted k h) x (labels-accepted n f ts accepted k h x .0 v) y l (subst⁻¹ (λ (q : Required). T (has (q .cube) y)) e t)
+  | inr u ↦ let (x, h, v, e) = point-e n f ts u in
+      ap (value f) (sym (span-self n x y h l (subst⁻¹ (λ (q : Required). T (has (q .cube) y)) e t))) ∙ (simp tests at v) .0
+]
 
 -- f has no function hazard for the transition from a to b.
 abbrev FunctionHazardFree : ℕ → List ℕ → ℕ → ℕ → Type 0
@@ -250,16 +259,14 @@ pub cover-source : (n : ℕ) (f ts : List ℕ) (net : Network) → Accepted n f 
 cover-source n f ts net accepted formed = (
   λ h. record {
     a = λ p m x l o. h .a p m x (zero x .0 o);
-    b = λ r m. let (l, s) = required-source n f ts accepted r .0 m in
-        let (p, u, i) = h .b (r .transition) l (r .cube) (r .label) s in covered-by (r .cube) u i;
+    b = λ r m. let (p, u, i) = h .b r (required-source n f ts accepted r .0 m) in covered-by (r .cube) u i;
     c = λ p m v u t. let (l, s) = privileged-source n f ts accepted v .0 u in
         let (i, j) = simp (T-and, T-no) at t in
         j (h .c p m (v .transition) l (v .cube) (v .start) s (λ trivial. meet h p m v u trivial i j) i);
   },
   λ h. record {
     a = λ p m x o. h .a p m x (o .0) (zero x .1 o);
-    b = λ k l c x s. let (j, q, i) = covered-e net c (h .b (record { transition = k; label = x; cube = c }) (required-source n f ts accepted _ .1 (l, s))) in
-        (productAt net j, entry-at net j q, i);
+    b = λ r s. covered-entry net (r .cube) (h .b r (required-source n f ts accepted r .1 s));
     c = λ p m k l c s u t i. elim (known (has p s)) [
       | inl y ↦ y
       | inr y ↦ absurd (h .c p m (record { transition = k; cube = c; start = s }) (privileged-source n f ts accepted _ .1 (l, u)) (simp (T-and, T-no) (i, y)))

@@ -1,25 +1,37 @@
 -- Nowick and Dill's theorem: a network is a hazard-free cover exactly if it is hazard-free.
 use mathlib.Core.Path.{_≡_, subst}
 use mathlib.Core.Logic.{_↔_, inl, inr}
-use mathlib.Core.Bool.{false}
+use mathlib.Core.Bool.{true, false}
 use mathlib.Core.List.{List, List·Memᴰ}
 use Prim.Native.Nat.{ℕ, _^_, _<_}
 use lib.Dec.{T, eqb→eq}
 use lib.ListN.{length}
 use Rattle.hazard.specs.Cube.{Cube, has, span}
 use Rattle.hazard.specs.Transition.{value, start, end, count, off}
-use Rattle.hazard.specs.Sets.{Required, Privileged, kindAt, startAt, privileged}
+use Rattle.hazard.specs.Sets.{Required, Privileged, kindAt, startAt, ofTransitions, unvisited, privileged}
 use Rattle.hazard.specs.Implicant.{illegal}
-use Rattle.hazard.specs.Cover.{Network, productAt, WellFormed, gives, covered, HazardFreeCover}
+use Rattle.hazard.specs.Cover.{Network, productAt, WellFormed, gives, covered, Cover, HazardFreeCover}
+use Rattle.hazard.specs.Run.{Allowed}
 use Rattle.hazard.specs.HazardFree.{HazardFree}
 use Rattle.hazard.specs.Refusal.{Accepted}
-use Rattle.hazard.proofs.Test.{isnt, so-not, known, eqb-of}
-use Rattle.hazard.proofs.Cube.{has→, →has, span-digits}
+use Rattle.hazard.proofs.Test.{tests, is, isnt, so, so-not, known, eqb-of}
+use Rattle.hazard.proofs.Cube.{has→, →has, inside→, inside-has, span-digits}
 use Rattle.hazard.proofs.Implicant.{illegal→, →illegal}
 use Rattle.hazard.proofs.Rules.{rules-at}
-use Rattle.hazard.proofs.Network.{entry-at, at-places, Products, well-formed→, gives-e, gives-i, covered-joint}
-use Rattle.hazard.proofs.Sets.{requiredAt, privilegedAt, required-i, required-e, privileged-i, privileged-e}
-use Rattle.hazard.proofs.Transition.{Anchored, CoverAt, HazardFreeAt, hazard-free-at, cover-at}
+use Rattle.hazard.proofs.Network.{entry-at, at-places, Products, well-formed→, gives-e, gives-i, covered-e, covered-joint, covered-point}
+use Rattle.hazard.proofs.Sets.{requiredAt, pointAt, privilegedAt, transition-i, transition-e, point-e, required-transition, required-cases, privileged-i, privileged-e}
+use Rattle.hazard.proofs.One.{one-required}
+use Rattle.hazard.proofs.Moment.{Runs}
+use Rattle.hazard.proofs.Transition.{Anchored, CoverAt, Ones, runs-at, cover-at}
+
+-- Hazard-free, but for the 1s that no transition visits: nothing is asked there.
+pub record VisitedHazardFree (n : ℕ) (f ts : List ℕ) (net : Network) : Type 0 where
+  pub zeros : (x : ℕ) → x < 2 ^ n → value f x ≡ 0 → gives net x ≡ false
+  pub ones : (k : ℕ) → k < count ts → Ones n f net (start ts k) (end ts k)
+  pub runs : (k : ℕ) → k < count ts → Runs (start ts k) (end ts k) net (Allowed (kindAt f ts k))
+
+pub hazard-free-visited : {n : ℕ} {f ts : List ℕ} {net : Network} → HazardFree n f ts net → VisitedHazardFree n f ts net
+hazard-free-visited h = record { zeros = h .zeros; ones = λ k l x m t. h .ones x m; runs = h .runs }
 
 module _ (n : ℕ) (f ts : List ℕ) (net : Network) (accepted : Accepted n f ts) (well : WellFormed n net) where
   good : Products n net
@@ -43,25 +55,32 @@ module _ (n : ℕ) (f ts : List ℕ) (net : Network) (accepted : Accepted n f ts
       i .lacks (has→ (productAt net j) (startAt f ts k) (h j l (i .shared) (→has (i .mine)) (→has (i .its))))
 
   pub cover→hazard-free : HazardFreeCover n f ts net → HazardFree n f ts net
-  cover→hazard-free h = record { zeros = zeros·; ones = λ k l. at· k l .ones; runs = λ k l. at· k l .runs }
+  cover→hazard-free h = record { zeros = zeros·; ones = ones·; runs = runs· }
     where
       zeros· : (x : ℕ) → x < 2 ^ n → value f x ≡ 0 → gives net x ≡ false
       zeros· x l z = isnt (gives net x) (λ t. let r = gives-e net x t in h .a (productAt net (r .0)) (entry-at net (r .0) (r .1)) x l (eqb-of z) (r .2))
 
-      at· : (k : ℕ) → k < count ts → HazardFreeAt n f net (start ts k) (end ts k) (kindAt f ts k)
-      at· k l =
-          hazard-free-at n f net (start ts k) (end ts k) good zeros· (kindAt f ts k) (rules-at n f ts accepted k l)
+      ones· : (x : ℕ) → x < 2 ^ n → value f x ≡ 1 → gives net x ≡ true
+      ones· x l v =
+          let (r, m, t) = one-required n f ts accepted x l v in
+          let (j, u, i) = covered-e net (r .cube) (h .b r m) in
+          is (gives-i net x j u (→has (inside-has (inside→ (r .cube) (productAt net j) i) (has→ (r .cube) x t))))
+
+      runs· : (k : ℕ) → k < count ts → Runs (start ts k) (end ts k) net (Allowed (kindAt f ts k))
+      runs· k l =
+          runs-at n f net (start ts k) (end ts k) good zeros· (λ x m t. ones· x m) (kindAt f ts k) (rules-at n f ts accepted k l)
           (record {
-            cubes = λ x m. covered-joint n net good (startAt f ts k) x .0 (h .b (requiredAt n f ts k x) (required-i n f ts k x l m));
+            cubes = λ x m. covered-joint n net good (startAt f ts k) x .0 (h .b (requiredAt n f ts k x) (required-transition n f ts (transition-i n f ts k x l m)));
             legal = λ d. legal→ k (λ j u. h .c (productAt net j) (entry-at net j u) (privilegedAt n f ts k) (privileged-i n f ts k l d));
           })
 
-  pub hazard-free→cover : HazardFree n f ts net → HazardFreeCover n f ts net
-  hazard-free→cover h =
+  -- The way back, from the visited 1s alone: the required cubes of the transitions are covered.
+  pub visited→cover : VisitedHazardFree n f ts net → Cover n (off f) (ofTransitions n f ts) (privileged n f ts) net
+  visited→cover h =
       record {
         a = at-places (λ (p : Cube). (x : ℕ) → x < 2 ^ n → T (off f x) → ¬ T (has p x)) net (λ j l x m z t. so-not (h .zeros x m (eqb→eq (value f x) 0 z)) (gives-i net x j l t));
         b = λ r m.
-            let w = required-e n f ts m in
+            let w = transition-e n f ts m in
             subst (λ (q : Required). T (covered net (q .cube))) (w .4) (covered-joint n net good (startAt f ts (w .0)) (w .1) .1 (at· (w .0) (w .2) .cubes (w .1) (w .3)));
         c = at-places (λ (p : Cube). (v : Privileged) → List·Memᴰ v (privileged n f ts) → ¬ T (illegal p v)) net (λ j l v m.
             let w = privileged-e n f ts m in
@@ -70,8 +89,17 @@ module _ (n : ℕ) (f ts : List ℕ) (net : Network) (accepted : Accepted n f ts
     where
       at· : (k : ℕ) → k < count ts → CoverAt n f net (start ts k) (end ts k) (kindAt f ts k)
       at· k l =
-          cover-at n f net (start ts k) (end ts k) good (h .zeros) (kindAt f ts k) (rules-at n f ts accepted k l)
-          (record { ones = h .ones k l; runs = h .runs k l })
+          cover-at n f net (start ts k) (end ts k) good (h .zeros) (h .ones k l) (kindAt f ts k) (rules-at n f ts accepted k l) (h .runs k l)
+
+  -- A single point is covered where the network gives 1 at it.
+  pub hazard-free→cover : HazardFree n f ts net → HazardFreeCover n f ts net
+  hazard-free→cover h = record { a = visited· .a; b = λ r m. elim (required-cases n f ts m) [ inl u ↦ visited· .b r u | inr u ↦ point r (point-e n f ts u) ]; c = visited· .c }
+    where
+      visited· : Cover n (off f) (ofTransitions n f ts) (privileged n f ts) net
+      visited· = visited→cover (hazard-free-visited h)
+
+      point : (r : Required) → (x : ℕ) × (x < 2 ^ n) × T (unvisited n f ts x) × (pointAt n ts x ≡ r) → T (covered net (r .cube))
+      point r (x, l, t, e) = subst (λ (q : Required). T (covered net (q .cube))) e (covered-point n net good x .1 (so (h .ones x l ((simp tests at t) .0))))
 
   -- Theorem 2.10 of the source.
   pub cover-hazard-free : HazardFreeCover n f ts net ↔ HazardFree n f ts net

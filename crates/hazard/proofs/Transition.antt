@@ -15,16 +15,16 @@ use Rattle.hazard.specs.Sets.{maximalLabel, labels, startPoint, dynamic}
 use Rattle.hazard.specs.Cover.{Network, productAt, gives}
 use Rattle.hazard.specs.Run.{Wire, Constant, Turns, Allowed}
 use Rattle.hazard.proofs.Test.{T-and, is, isnt, so, so-not, or-l, known, eqb-of, eqb-self, cond-yes, cond-no}
-use Rattle.hazard.proofs.Search.{those-e, those-i}
+use Rattle.hazard.proofs.Search.{those-e}
 use Rattle.hazard.proofs.Cube.{→has, span-left, span-right}
-use Rattle.hazard.proofs.Point.{dig, bit-lt, dig-short, has-e, has-i, In, in-e, in-i, in-swap, between}
+use Rattle.hazard.proofs.Point.{dig, bit-lt, dig-short, has-e, has-i, in-e, in-i, in-swap}
 use Rattle.hazard.proofs.Rules.{RulesAt}
 use Rattle.hazard.proofs.Network.{Products, gives-e, gives-i, Joint}
 use Rattle.hazard.proofs.Wire.{wire}
 use Rattle.hazard.proofs.Trace.{out, constant, turns}
 use Rattle.hazard.proofs.View.{On, out-e, out-i, sees-either, was-on, stays-on, view}
 use Rattle.hazard.proofs.Moment.{Runs, Moved, moved-sees, out-start, out-end, constant-moved, turns-moved}
-use Rattle.hazard.proofs.Label.{label-of, label-one}
+use Rattle.hazard.proofs.Label.{label-one}
 
 -- Every product that has a point of [A,B] contains s.
 abbrev pub Anchored : ℕ → ℕ → ℕ → Network → ℕ → Type 0
@@ -159,13 +159,8 @@ module _ (n : ℕ) (f : List ℕ) (net : Network) (a b : ℕ) where
     pub legal : T (dynamic k) → Anchored n a b net (startPoint k a b)
 
   -- The network gives 1 at the 1s of [A,B].
-  abbrev Ones : Type 0
+  abbrev pub Ones : Type 0
   Ones = (x : ℕ) → x < 2 ^ n → T (has (span n a b) x) → value f x ≡ 1 → gives net x ≡ true
-
-  -- The network is hazard-free for a transition of kind k.
-  pub record HazardFreeAt (k : Kind) : Type 0 where
-    pub ones : Ones
-    pub runs : Runs a b net (Allowed k)
 
   -- A single product contains S and the label, for each label, if the network gives 1 at the 1s and every product that has a point of [A,B] contains S.
   labelled : (s e : ℕ) → ((x : ℕ) → T (has (span n s e) x) → T (has (span n a b) x)) → Ones → Anchored n a b net s
@@ -176,53 +171,28 @@ module _ (n : ℕ) (f : List ℕ) (net : Network) (a b : ℕ) where
       let g = gives-e net x (so (one x (omega (arith, t .1)) (to x (u .0)) (u .1))) in
       (g .0, g .1, anchored (g .0) (g .1) x (g .2) (to x (u .0)), g .2)
 
-  module _ (good : Products n net) (zeros : (x : ℕ) → x < 2 ^ n → value f x ≡ 0 → gives net x ≡ false) where
-    -- The network gives 1 at the 1s of [S,E], if a single product contains S and the label, for each label.
-    reach : (s e : ℕ) → ((x : ℕ) → List·Memᴰ x (those (maximalLabel n f s e) 0 (2 ^ n)) → Joint net s x)
-        → (x : ℕ) → x < 2 ^ n → In n s e x → value f x ≡ 1 → gives net x ≡ true
-    reach s e c x h r v =
-        let y = label-of n f s e x h r v in
-        let j = c (y .0) (those-i (maximalLabel n f s e) 0 (2 ^ n) (y .0) (omega arith) (omega (arith, y .1)) (y .2)) in
-        is (gives-i net x (j .0) (j .1) (between n s (y .0) x (good (j .0) (j .1)) (j .2) (j .3) (y .3)))
+  module _ (good : Products n net) (zeros : (x : ℕ) → x < 2 ^ n → value f x ≡ 0 → gives net x ≡ false) (ones : Ones) where
+    pub runs-at : (k : Kind) → RulesAt n f a b k → CoverAt k → Runs a b net (Allowed k)
+    runs-at low h c r e =
+        constant a b net false (all-off n a b net good (λ x l t. let ne : value f x ≢ 1 = λ v. h .kept x l t (eqb-of v) in zeros x l (omega (arith, h .defined x l t)))) [] r
+    runs-at rise h c r e =
+        turns a b net false (remains-on n a b net good (c .legal tt)) [] r (out-start a b net ∙ zeros a (h .start-lt) (h .ends .0))
+        (out-end a b net r e ∙ ones b (h .end-lt) (→has (span-right n a b)) (h .ends .1))
+    runs-at fall h c r e =
+        turns a b net true (stays-off n a b net good (c .legal tt)) [] r (out-start a b net ∙ ones a (h .start-lt) (→has (span-left n a b)) (h .ends .0))
+        (out-end a b net r e ∙ zeros b (h .end-lt) (h .ends .1))
+    runs-at high h c r e = constant a b net true (all-on a b net (c .cubes b (List·Memᴰ·head refl))) [] r
 
-    pub hazard-free-at : (k : Kind) → RulesAt n f a b k → CoverAt k → HazardFreeAt k
-    hazard-free-at low h c =
-        record {
-          ones = λ x l t v. absurd (h .kept x l t (eqb-of v));
-          runs = λ r e. constant a b net false
-              (all-off n a b net good (λ x l t. let ne : value f x ≢ 1 = λ v. h .kept x l t (eqb-of v) in zeros x l (omega (arith, h .defined x l t)))) [] r;
-        }
-    hazard-free-at rise h c =
-        let one : Ones = λ x l t v. reach b a (c .cubes) x l (in-swap n a b x (in-e n a b x t)) v in
-        record {
-          ones = one;
-          runs = λ r e. turns a b net false (remains-on n a b net good (c .legal tt)) [] r (out-start a b net ∙ zeros a (h .start-lt) (h .ends .0))
-              (out-end a b net r e ∙ one b (h .end-lt) (→has (span-right n a b)) (h .ends .1));
-        }
-    hazard-free-at fall h c =
-        let one : Ones = λ x l t v. reach a b (c .cubes) x l (in-e n a b x t) v in
-        record {
-          ones = one;
-          runs = λ r e. turns a b net true (stays-off n a b net good (c .legal tt)) [] r (out-start a b net ∙ one a (h .start-lt) (→has (span-left n a b)) (h .ends .0))
-              (out-end a b net r e ∙ zeros b (h .end-lt) (h .ends .1));
-        }
-    hazard-free-at high h c =
-        let j = c .cubes b (List·Memᴰ·head refl) in
-        record {
-          ones = λ x l t v. is (gives-i net x (j .0) (j .1) (between n a b x (good (j .0) (j .1)) (j .2) (j .3) (in-e n a b x t)));
-          runs = λ r e. constant a b net true (all-on a b net j) [] r;
-        }
-
-    pub cover-at : (k : Kind) → RulesAt n f a b k → HazardFreeAt k → CoverAt k
+    pub cover-at : (k : Kind) → RulesAt n f a b k → Runs a b net (Allowed k) → CoverAt k
     cover-at low h q = record { cubes = λ x m. absurd (List·Memᴰ·not-nil m); legal = λ t. absurd t }
     cover-at rise h q =
-        let c : Anchored n a b net b = λ j l x t u. rise-start n a b net good j l x t u (q .runs) (zeros a (h .start-lt) (h .ends .0)) in
-        record { cubes = labelled b a (λ x t. in-i n a b x (in-swap n b a x (in-e n b a x t))) (q .ones) c; legal = λ t. c }
+        let c : Anchored n a b net b = λ j l x t u. rise-start n a b net good j l x t u q (zeros a (h .start-lt) (h .ends .0)) in
+        record { cubes = labelled b a (λ x t. in-i n a b x (in-swap n b a x (in-e n b a x t))) ones c; legal = λ t. c }
     cover-at fall h q =
-        let c : Anchored n a b net a = λ j l x t u. fall-start n a b net good j l x t u (q .runs) (zeros b (h .end-lt) (h .ends .1)) in
-        record { cubes = labelled a b (λ x t. t) (q .ones) c; legal = λ t. c }
+        let c : Anchored n a b net a = λ j l x t u. fall-start n a b net good j l x t u q (zeros b (h .end-lt) (h .ends .1)) in
+        record { cubes = labelled a b (λ x t. t) ones c; legal = λ t. c }
     cover-at high h q =
-        let j = high-joint a b net (q .runs) in
+        let j = high-joint a b net q in
         record {
           cubes = λ x m. (j .0, j .1, j .2, subst⁻¹ (λ (y : ℕ). T (has (productAt net (j .0)) y)) (List·Memᴰ·eq-of-singleton m) (j .3));
           legal = λ t. absurd t;

@@ -1,6 +1,6 @@
 -- The verifier is right: it passes exactly the hazard-free networks.
 use mathlib.Core.Path.{_≡_, refl, sym, subst, _∙_, ap}
-use mathlib.Core.Logic.{_↔_}
+use mathlib.Core.Logic.{_↔_, _⊎_, inl, inr}
 use mathlib.Core.Bool.{not, _&&_, _||_}
 use mathlib.Core.List.{List, List·Memᴰ}
 use mathlib.Core.Option.{Option, none, some, Option·map, map-eq-none-iff, Option·some-injective}
@@ -11,8 +11,8 @@ use lib.ListN.{length, drop}
 use Rattle.hazard.specs.Limits.{mostProducts}
 use Rattle.hazard.specs.Search.{first, find, firstOf}
 use Rattle.hazard.specs.Cube.{Cube, isProduct, has}
-use Rattle.hazard.specs.Transition.{off}
-use Rattle.hazard.specs.Sets.{Required, Privileged, required, privileged}
+use Rattle.hazard.specs.Transition.{off, count}
+use Rattle.hazard.specs.Sets.{Required, Privileged, unvisited, required, privileged}
 use Rattle.hazard.specs.Implicant.{illegal, lowestZero}
 use Rattle.hazard.specs.Cover.{Network, productAt, WellFormed, covered, HazardFreeCover}
 use Rattle.hazard.specs.HazardFree.{HazardFree}
@@ -22,6 +22,7 @@ use Rattle.hazard.proofs.Test.{T-and, no-or, sure}
 use Rattle.hazard.proofs.Rules.{lets}
 use Rattle.hazard.proofs.Search.{none-some, first-none, none-first, find-none, place-none, firstOf-none, entries, firstOf-append, First, lowest, first-is, Find, hit, find-is, Earlier, Place, placed, place-is}
 use Rattle.hazard.proofs.Network.{entry-at, at-places}
+use Rattle.hazard.proofs.Sets.{labelsAt, transition-e, point-e, required-cases}
 use Rattle.hazard.proofs.Theorem.{cover-hazard-free}
 
 -- How many products a network's bytes are cut into.
@@ -134,6 +135,25 @@ module _ (n : ℕ) (f ts : List ℕ) (net : Network) where
           (none-a n f ts net .0 ea))
       stages none ea pa none ec pc (some r) eb (hit m t h) = cube-named m (T-not (covered net (r .cube)) t) h (none-a n f ts net .0 ea) (none-c n f ts net .0 ec)
       stages none ea pa none ec pc none eb fb = none-named (record { a = none-a n f ts net .0 ea; b = none-b n f ts net .0 eb; c = none-c n f ts net .0 ec })
+
+  -- Verdict 4 names a transition of the list and one of its labels, or the number of transitions and a 1 that none of them visits.
+  pub uncovered-names : (k x : ℕ) → fault n f ts net ≡ uncovered k x → ((k < count ts) × List·Memᴰ x (labelsAt n f ts k)) ⊎ ((k ≡ count ts) × (x < 2 ^ n) × T (unvisited n f ts x))
+  uncovered-names k x e = go (fault n f ts net) fault-named e
+    where
+      Names : ℕ → ℕ → Type 0
+      Names k x = ((k < count ts) × List·Memᴰ x (labelsAt n f ts k)) ⊎ ((k ≡ count ts) × (x < 2 ^ n) × T (unvisited n f ts x))
+
+      of-cube : {r : Required} → List·Memᴰ r (required n f ts) → Names (r .transition) (r .label)
+      of-cube m = elim (required-cases n f ts m) [
+        | inl u ↦ let (j, y, l, h, e) = transition-e n f ts u in subst (λ (r : Required). Names (r .transition) (r .label)) e (inl (l, h))
+        | inr u ↦ let (y, l, t, e) = point-e n f ts u in subst (λ (r : Required). Names (r .transition) (r .label)) e (inr (refl, l, t))
+      ]
+
+      go : (v : Verdict) → Named n f ts net v → v ≡ uncovered k x → Names k x
+      go passed w e = let z : _≡_ {A = ℕ} 0 1 = cc in absurd (omega arith)
+      go (holdsZero i y) w e = let z : _≡_ {A = ℕ} 0 1 = cc in absurd (omega arith)
+      go (intersects i y) w e = let z : _≡_ {A = ℕ} 0 1 = cc in absurd (omega arith)
+      go (uncovered i y) (cube-named m t u a c) e = rw (sym (ap (λ (v : Verdict). fieldsOf v .transition) e), sym (ap (λ (v : Verdict). fieldsOf v .point) e)) (of-cube m)
 
   -- The verdict is `passed` exactly if the three conditions hold.
   pub fault-passed : (fault n f ts net ≡ passed) ↔ HazardFreeCover n f ts net

@@ -3,16 +3,14 @@ use mathlib.Core.Path.{_≡_}
 use mathlib.Core.Bool.{true, false}
 use mathlib.Core.List.{List, []}
 use Prim.Native.Nat.{ℕ, _<_, _^_}
-use lib.Dec.{T}
-use Rattle.hazard.specs.Cube.{has, span}
 use Rattle.hazard.specs.Transition.{value, start, end, count}
 use Rattle.hazard.specs.Sets.{kindAt}
 use Rattle.hazard.specs.Cover.{Network, gives}
 use Rattle.hazard.specs.Run.{Wire, Run, outputs, Allowed}
 
--- 0 at each 0 of the table; 1 at each 1 that lies in some [A,B]; every run of every transition allowed.
+-- 0 at each 0 of the table; 1 at each 1, visited by a transition or not; every run of every transition allowed.
 pub record HazardFree (n : ℕ) (f ts : List ℕ) (net : Network) : Type 0 where
   pub zeros : (x : ℕ) → x < 2 ^ n → value f x ≡ 0 → gives net x ≡ false
-  pub ones : (k : ℕ) → k < count ts → (x : ℕ) → x < 2 ^ n → T (has (span n (start ts k) (end ts k)) x) → value f x ≡ 1 → gives net x ≡ true
+  pub ones : (x : ℕ) → x < 2 ^ n → value f x ≡ 1 → gives net x ≡ true
   pub runs : (k : ℕ) → k < count ts → (r : List Wire) → Run (start ts k) (end ts k) net r
       → Allowed (kindAt f ts k) (outputs (start ts k) (end ts k) net [] r)

@@ -3,7 +3,7 @@ use Prim.Native.Nat.{ℕ, _*_}
 
 -- The most required cubes of a problem.
 abbrev pub mostRequired : ℕ
-mostRequired = 2048
+mostRequired = 3072
 
 -- The bytes of the longest network that is made: ten inputs for each required cube.
 abbrev pub mostCover : ℕ
@@ -11,4 +11,4 @@ mostCover = 10 * mostRequired
 
 -- The most products of a network that is verified.
 abbrev pub mostProducts : ℕ
-mostProducts = 2048
+mostProducts = 3072

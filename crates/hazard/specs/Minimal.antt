@@ -9,7 +9,7 @@ use lib.Dec.{T, ltb}
 use lib.ListN.{length, drop}
 use Rattle.hazard.specs.Search.{firstOf}
 use Rattle.hazard.specs.Cube.{Cube, isProduct}
-use Rattle.hazard.specs.Transition.{off}
+use Rattle.hazard.specs.Transition.{off, count}
 use Rattle.hazard.specs.Sets.{Required, Privileged, required, privileged}
 use Rattle.hazard.specs.Implicant.{dhfImplicant, DhfPrime, StrictlyInside}
 use Rattle.hazard.specs.Growth.{Growth, Legal, Blocked, Grown, grow}
@@ -40,7 +40,8 @@ module _ (n : ℕ) (f ts : List ℕ) where
   abbrev pub minimiserChecks : ℕ → List (Option Refusal)
   minimiserChecks room = inputChecks n f ts ++ (roomCheck room ∷ blocking ∷ [])
 
--- Refusal 10 is that of the first required cube that blocks: no earlier one does, and its growth took at least one step and at most n.
+-- Refusal 10 is that of the first required cube that blocks: no earlier one does, it belongs to one of the transitions, and its growth took
+-- at least one step and at most n.
 pub record FirstBlocking (n : ℕ) (f ts : List ℕ) (q : Refusal) : Type 0 where
   pub earlier : List Required
   pub cube : Required
@@ -48,6 +49,7 @@ pub record FirstBlocking (n : ℕ) (f ts : List ℕ) (q : Refusal) : Type 0 wher
   pub listed : required n f ts ≡ earlier ++ (cube ∷ later)
   pub free : (r : Required) → List·Memᴰ r earlier → Grown (grow n (off f) (privileged n f ts) (r .cube))
   pub blocks : blockCheck n (off f) (privileged n f ts) cube ≡ some q
+  pub among : q .transition < count ts
   pub taken : 1 ≤ q .steps
   pub few : q .steps ≤ n
 

@@ -30,7 +30,7 @@ pieces =
     piece 1 (1 ∷ 1 ∷ []) (0 ∷ 1 ∷ []) (minimised ((2 ∷ []) ∷ []))
     ∷ k2 (minimised ((0 ∷ 2 ∷ []) ∷ (2 ∷ 0 ∷ []) ∷ []))
     ∷ piece 2 (0 ∷ 1 ∷ 1 ∷ 1 ∷ []) (1 ∷ 2 ∷ []) (declined (refusal 7 0 0))
-    ∷ k4 (minimised ((1 ∷ 1 ∷ 2 ∷ []) ∷ []))
+    ∷ k4 (minimised ((1 ∷ 1 ∷ 2 ∷ []) ∷ (1 ∷ 2 ∷ 0 ∷ []) ∷ (2 ∷ 1 ∷ 1 ∷ []) ∷ []))
     ∷ k4 (verified net5 (uncovered 0 7))
     ∷ k4 (moved net5 0 (record { product = 0; input = 2 } ∷ record { product = 1; input = 2 } ∷ []) (true ∷ false ∷ true ∷ []))
     ∷ k4 (verified (1 ∷ 2 ∷ 0 ∷ 2 ∷ 1 ∷ 1 ∷ 1 ∷ 1 ∷ 2 ∷ []) passed)

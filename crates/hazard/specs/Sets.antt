@@ -1,13 +1,13 @@
--- The sets made from the transitions: required cubes and privileged cubes.
+-- The sets made from the table and the transitions: required cubes and privileged cubes.
 use mathlib.Core.Bool.{Bool, true, false, not, _&&_}
 use mathlib.Core.List.{List, [], _∷_, _++_, map}
 use Prim.Native.Nat.{ℕ, zero, suc, _^_}
 use lib.Dec.{eqb}
 use Rattle.hazard.specs.Search.{those}
 use Rattle.hazard.specs.Cube.{Cube, has, span}
-use Rattle.hazard.specs.Transition.{value, start, end, count, Kind, low, rise, fall, high, kind, further}
+use Rattle.hazard.specs.Transition.{value, start, end, count, visited, Kind, low, rise, fall, high, kind, further}
 
--- A required cube, with the number of its transition and its label.
+-- A required cube, with the number of its transition and its label. A single point has no transition: the number of transitions stands there.
 pub record Required : Type 0 where
   pub transition : ℕ
   pub label : ℕ
@@ -52,6 +52,10 @@ kindAt f ts k = kind f (start ts k) (end ts k)
 abbrev pub startAt : List ℕ → List ℕ → ℕ → ℕ
 startAt f ts k = startPoint (kindAt f ts k) (start ts k) (end ts k)
 
+-- The points of a set, each a required cube of its own with itself for its label, in ascending order, and k for their transition.
+abbrev pub singlePoints : ℕ → ℕ → (ℕ → Bool) → List Required
+singlePoints n k set = map (λ x. record { transition = k; label = x; cube = span n x x }) (those set 0 (2 ^ n))
+
 module _ (n : ℕ) (f ts : List ℕ) where
   -- The required cubes of transition k, in order of label: [A,X] of a fall, [X,B] of a rise, [A,B] of a static high.
   abbrev pub requiredOf : ℕ → List Required
@@ -62,9 +66,21 @@ module _ (n : ℕ) (f ts : List ℕ) where
   requiredFrom k zero = []
   requiredFrom k (suc m) = requiredOf k ++ requiredFrom (suc k) m
 
-  -- The required cubes, in order of transition, then of label, repeats kept.
+  -- The required cubes of all transitions, in order of transition, then of label, repeats kept.
+  abbrev pub ofTransitions : List Required
+  ofTransitions = requiredFrom 0 (count ts)
+
+  -- A 1 that no transition visits.
+  abbrev pub unvisited : ℕ → Bool
+  unvisited x = eqb (value f x) 1 && not (visited n ts x)
+
+  -- Those 1s, with the number of transitions where others have their transition.
+  abbrev pub ofPoints : List Required
+  ofPoints = singlePoints n (count ts) unvisited
+
+  -- The required cubes: those of the transitions, and after them the single points.
   abbrev pub required : List Required
-  required = requiredFrom 0 (count ts)
+  required = ofTransitions ++ ofPoints
 
   -- The privileged cubes of the m transitions from k on.
   abbrev pub privilegedFrom : ℕ → ℕ → List Privileged

@@ -28,6 +28,14 @@ end ts k = getD ts (2 * k + 1) 0
 abbrev pub count : List ℕ → ℕ
 count ts = length ts / 2
 
+-- Transition k visits the point x: x lies in its [A,B].
+abbrev pub visits : ℕ → List ℕ → ℕ → ℕ → Bool
+visits n ts k x = has (span n (start ts k) (end ts k)) x
+
+-- Some transition visits the point.
+abbrev pub visited : ℕ → List ℕ → ℕ → Bool
+visited n ts x = found (first (λ k. visits n ts k x) 0 (count ts))
+
 -- 0 to 0 (static low), 0 to 1 (rise), 1 to 0 (fall), 1 to 1 (static high).
 pub data Kind : Type 0 where
   low rise fall high : Kind

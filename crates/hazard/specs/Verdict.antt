@@ -50,7 +50,7 @@ pub data Verdict : Type 0 where
   holdsZero : ℕ → ℕ → Verdict
   -- (c) fails: the product, and the transition
   intersects : ℕ → ℕ → Verdict
-  -- (b) fails: the transition, and the label
+  -- (b) fails: the transition (of a single point, which has none, the number of transitions), and the label
   uncovered : ℕ → ℕ → Verdict
 
 -- The first failure of (a), by product and then point.
