@@ -7,7 +7,7 @@
 
 static void solve(size_t n, const uint8_t *table, const uint16_t *transitions, size_t transitions_length)
 {
-    uint8_t cover[10 * 2048];
+    uint8_t cover[10 * QUIET_MOST_REQUIRED];
     uint64_t answer = quiet_minimise(n, table, (size_t)1 << n, transitions, transitions_length, cover, sizeof cover);
     if (QUIET_REFUSAL(answer) != 0) {
         printf("refused %u %u %u %u %u\n", QUIET_REFUSAL(answer), QUIET_TRANSITION(answer), QUIET_POINT(answer), QUIET_STEPS(answer),

@@ -21,6 +21,11 @@
 extern "C" {
 #endif
 
+/* The most required cubes of a problem, which are also the most products of a network that is made; and the most products of a network
+ * that is verified. */
+#define QUIET_MOST_REQUIRED 3072
+#define QUIET_MOST_PRODUCTS 3072
+
 /* Refusals. The checks run in this order, and the first that applies is returned. Fields that are not named are 0.
  *
  *  1  n is 0 or above 10
@@ -31,16 +36,16 @@ extern "C" {
  *  6  a 2 in some [A,B]: the first such transition, its lowest such point
  *  7  the kind's rule is broken: the first such transition; the point is the lowest wrong value (static transition) or the lowest one
  *     before a wrong move (dynamic transition)
- *  8  more than 2,048 required cubes
+ *  8  more than QUIET_MOST_REQUIRED required cubes. Each 1 of the table that lies in no [A,B] is one of them, with itself for its label
  *  9  quiet_minimise: buffer shorter than n times the number of required cubes
  * 10  quiet_minimise: a required cube blocks, so no network is hazard-free: the transition and the label of the first such cube, the
- *     steps of its growth, and the lowest zero that it ends at
- * 11  quiet_verify: network length no multiple of n, or above 2,048 products
+ *     steps of its growth, and the lowest zero that it ends at. The transition is always one of the list
+ * 11  quiet_verify: network length no multiple of n, or above QUIET_MOST_PRODUCTS products
  * 12  quiet_verify: a network byte above 2: the first such product
  */
 
-/* Writes a minimal hazard-free network into cover. n * 2048 bytes are always enough. The products stand in ascending order of their bytes,
- * compared from input 0 on: a 2, an absent literal, comes after 0 and 1.
+/* Writes a minimal hazard-free network into cover: it is 1 at every 1 of the table. n * QUIET_MOST_REQUIRED bytes are always enough. The
+ * products stand in ascending order of their bytes, compared from input 0 on: a 2, an absent literal, comes after 0 and 1.
  *
  * Answer: 256 * the number of products, so bits 0 to 7 are 0; or a refusal:
  *   bits  0 to  7  its number
@@ -59,7 +64,8 @@ uint64_t quiet_minimise(size_t n, const uint8_t *table, size_t table_length, con
  *   bits  0 to  7  0 refused, 1 passed, or the condition that fails first:
  *                  2 (a) the product contains the point, which is a 0 of the table
  *                  3 (c) the product intersects the transition's privileged cube and lacks its start point
- *                  4 (b) the required cube with this transition and label lies in no single product
+ *                  4 (b) the required cube with this transition and label lies in no single product; for a 1 that lies in no [A,B] the
+ *                    transition is the number of transitions
  *   bits  8 to 15  the refusal's number
  *   bits 16 to 31  product
  *   bits 32 to 47  transition

@@ -74,6 +74,11 @@ pub(crate) fn between(a: u64, b: u64) -> u64 {
     })
 }
 
+// The 1s that no transition visits.
+pub(crate) fn unvisited(p: Instance) -> u64 {
+    p.ones & (65535 ^ p.visited)
+}
+
 // A problem with no transitions yet.
 pub(crate) fn of_table(n: u64, zeros: u64, ones: u64) -> Instance {
     Instance {

@@ -21,11 +21,13 @@ use crate::counts::REFUSED_7;
 use crate::counts::STEPS_1;
 use crate::counts::STEPS_2;
 use crate::counts::STEPS_3;
+use crate::counts::UNVISITED;
 use crate::counts::add;
 use crate::counts::expect;
 use crate::faults::inside_legal;
 use crate::instance::Instance;
 use crate::instance::first_refused;
+use crate::instance::unvisited;
 use crate::network::Network;
 use crate::network::product_at;
 use crate::network::without;
@@ -63,6 +65,9 @@ fn minimal(p: Instance, net: Network, count: usize, counts: &mut [u64; LEN]) {
     add(counts, MINIMISED);
     if 3 <= count {
         add(counts, LARGE);
+    }
+    if unvisited(p) != 0 {
+        add(counts, UNVISITED);
     }
     expect(counts, ACCEPTANCE, first_refused(p).number == 0);
     expect(counts, HAZARD, net.count == count as u64);
@@ -109,7 +114,7 @@ fn names_blocked(p: Instance, r: Refusal) -> bool {
     )
 }
 
-// Refusal 10: no set of products is hazard-free, and the fields name the first cube that blocks.
+// Refusal 10: no set of products is hazard-free, even if nothing is asked at the 1s that no transition visits, and the fields name the first cube that blocks.
 fn none(p: Instance, r: Refusal, counts: &mut [u64; LEN]) -> Answer {
     add(counts, NONE);
     add(counts, count_of_steps(r.steps));

@@ -26,7 +26,7 @@ fn print_line(text: &[u8], counts: &[u64; LEN], from: usize) -> usize {
 
 fn print_found(c: &[u64; LEN]) -> usize {
     let next = print_line(
-        b"minimised #, of them with 3 or more products #, none #, refused 6 #, refused 7 #\nproducts dropped #\n",
+        b"minimised #, of them with 3 or more products #, with a 1 that no transition visits #, none #, refused 6 #, refused 7 #\nproducts dropped #\n",
         c,
         0,
     );
@@ -36,7 +36,7 @@ fn print_found(c: &[u64; LEN]) -> usize {
         next,
     );
     print_line(
-        b"verified: refused #, passed #, product holds a zero #, illegal intersection #, uncovered #\nnetworks with too many wires to try #\n",
+        b"verified: refused #, passed #, product holds a zero #, illegal intersection #, uncovered #, of them single points #\nnetworks with too many wires to try #\n",
         c,
         next,
     )

@@ -9,6 +9,7 @@ use crate::instance::nothing;
 use crate::instance::same;
 use crate::instance::start;
 use crate::instance::turns;
+use crate::instance::unvisited;
 use crate::network::Network;
 use crate::network::Product;
 use crate::network::empty;
@@ -16,8 +17,11 @@ use crate::network::has;
 use crate::network::points;
 use crate::network::product_at;
 
-// Whether x labels a required cube of transition k.
+// Whether x labels a required cube of transition k; the number of transitions stands for none of them.
 fn is_label(p: Instance, k: u64, x: u64) -> bool {
+    if k == p.count {
+        return has(unvisited(p), x);
+    }
     if !one_of(p, k, x) {
         return false;
     }
@@ -32,8 +36,11 @@ fn is_label(p: Instance, k: u64, x: u64) -> bool {
     !turns(p, a, b, x)
 }
 
-// The required cube of transition k with label x.
+// The required cube of transition k with label x, or the single point x.
 fn required(p: Instance, k: u64, x: u64) -> Product {
+    if k == p.count {
+        return Product { care: 15, value: x };
+    }
     let a = start(p, k);
     let b = end(p, k);
     if has(p.ones, a) {
@@ -106,20 +113,20 @@ fn is_sought(p: Instance, net: Network, blocking: bool, k: u64, x: u64) -> bool 
     !is_covered(net, points(required(p, k, x)))
 }
 
-// The first such cube, by transition and then label: 16 for each transition, and the label; 128 where there is none.
+// The first such cube, by transition and then label, the single points last: 16 for each transition, and the label; 144 where there is none.
 fn first_sought(p: Instance, net: Network, blocking: bool) -> u64 {
-    for i in 0..128u64 {
+    for i in 0..144u64 {
         if is_sought(p, net, blocking, i / 16, i % 16) {
             return i;
         }
     }
-    128
+    144
 }
 
 // Whether the first cube that blocks is that of transition k with label x, and its growth ends so.
 pub(crate) fn blocks_at(p: Instance, k: u64, x: u64, steps: u64, zero: u64) -> bool {
     let i = first_sought(p, empty(), true);
-    if 128 <= i {
+    if 144 <= i {
         return false;
     }
     if i / 16 != k {
@@ -139,7 +146,7 @@ pub(crate) fn blocks_at(p: Instance, k: u64, x: u64, steps: u64, zero: u64) -> b
 // Verdict 4: the first required cube that lies in no product, its transition and its label.
 pub(crate) fn first_uncovered(p: Instance, net: Network) -> Named {
     let i = first_sought(p, net, false);
-    if i < 128 {
+    if i < 144 {
         return Named {
             number: 4,
             first: i / 16,

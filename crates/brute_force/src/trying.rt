@@ -1,4 +1,5 @@
-// None: by trying sets of products that contain no 0.
+// None: by trying sets of products that contain no 0. Nothing is asked at the 1s that no transition visits: that small sets miss one there
+// would show nothing.
 use crate::counts::LEN;
 use crate::counts::SETS;
 use crate::counts::add;
@@ -10,7 +11,7 @@ use crate::network::product_of;
 use crate::network::products_of;
 use crate::network::push;
 use crate::wires::Found;
-use crate::wires::hazard_free;
+use crate::wires::hazard_free_visited;
 
 // At most 81 products, by their codes.
 pub struct Codes {
@@ -52,7 +53,7 @@ fn with_product(p: Instance, net: Network, codes: &[u64; 81], i: usize) -> Netwo
 
 fn is_hazard_free(p: Instance, net: Network, counts: &mut [u64; LEN]) -> bool {
     add(counts, SETS);
-    if let Found::HazardFree = hazard_free(p, net) {
+    if let Found::HazardFree = hazard_free_visited(p, net) {
         true
     } else {
         false

@@ -8,6 +8,7 @@ use crate::counts::INTERSECTS;
 use crate::counts::LEN;
 use crate::counts::PASSED;
 use crate::counts::REFUSED;
+use crate::counts::SINGLE_POINT;
 use crate::counts::TOO_WIDE;
 use crate::counts::UNCOVERED;
 use crate::counts::VERDICT;
@@ -78,6 +79,11 @@ pub(crate) fn expect_hazard_free(
 
 fn compare(p: Instance, net: Network, v: Named, counts: &mut [u64; LEN]) {
     add(counts, count_of(v.number));
+    if v.number == 4 {
+        if v.first == p.count {
+            add(counts, SINGLE_POINT);
+        }
+    }
     expect(counts, FIELDS_OF_FAULT, same(first_fault(p, net), v));
     expect_hazard_free(p, net, v.number == 0, VERDICT, counts);
 }

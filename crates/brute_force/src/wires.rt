@@ -83,9 +83,8 @@ fn allowed(p: Instance, net: Network, k: u64) -> Found {
     }
 }
 
-// Whether the network is 0 at each 0 of the table, and 1 at each 1 that lies in some [A,B].
-fn right_values(p: Instance, net: Network) -> bool {
-    let due = p.ones & p.visited;
+// Whether the network is 0 at each 0 of the table, and 1 at each point that is due.
+fn right_values(p: Instance, net: Network, due: u64) -> bool {
     for x in 0..16u64 {
         let shown = output(net, x, 0);
         if has(p.zeros, x) {
@@ -102,10 +101,8 @@ fn right_values(p: Instance, net: Network) -> bool {
     true
 }
 
-pub(crate) fn hazard_free(p: Instance, net: Network) -> Found {
-    if !right_values(p, net) {
-        return Found::Hazard;
-    }
+// Every run of every transition.
+fn all_allowed(p: Instance, net: Network) -> Found {
     let mut wide = false;
     for k in 0..p.count {
         match allowed(p, net, k) {
@@ -119,4 +116,20 @@ pub(crate) fn hazard_free(p: Instance, net: Network) -> Found {
     } else {
         Found::HazardFree
     }
+}
+
+// Hazard-free: 1 is due at every 1, visited or not.
+pub(crate) fn hazard_free(p: Instance, net: Network) -> Found {
+    if !right_values(p, net, p.ones) {
+        return Found::Hazard;
+    }
+    all_allowed(p, net)
+}
+
+// The same with nothing asked at the 1s that no transition visits.
+pub(crate) fn hazard_free_visited(p: Instance, net: Network) -> Found {
+    if !right_values(p, net, p.ones & p.visited) {
+        return Found::Hazard;
+    }
+    all_allowed(p, net)
 }

@@ -1,26 +1,19 @@
 -- What the checks say, one after another, and what they leave of a problem.
 use mathlib.Core.Path.{_≡_, refl, sym, ap, subst, _∙_}
-use mathlib.Core.List.{List, _++_, map, append-nil}
+use mathlib.Core.List.{List, map}
 use mathlib.Core.Option.{Option, none, some}
-use Prim.Native.Nat.{ℕ, zero, suc, _/_, _%_, _^_}
-use lib.Dec.{eqb}
-use lib.ListN.{length, getD, take, replicate}
+use Prim.Native.Nat.{ℕ}
+use lib.ListN.{length, take}
 use Rattle.hazard.specs.Search.{firstOf}
 use Rattle.hazard.specs.Refusal as spec
-use Rattle.hazard.specs.Sets.{Required, required, privileged}
+use Rattle.hazard.specs.Sets.{required, privileged}
 use Rattle.hazard.proofs.Search.{firstOf-none, entries}
-use Rattle.cube.specs.PointSet.{inSet}
-use Rattle.cube.proofs.WordMask.{no-bit}
-use Rattle.points.proofs.Members.{those-none}
 use Rattle.context.specs.Places.{words, zerosIn, onesIn}
 use Rattle.context.specs.Planes.{Plane}
 use Rattle.context.specs.Context.{tableIn, Planes}
 use Rattle.context.proofs.Values.{table-is, planes-are, planes-same, table-same}
 use Rattle.kinds.specs.Ready.{Ready}
 use Rattle.rules.proofs.Ready.{defined-ready}
-use Rattle.entries.specs.declared.store.Corner.the-variants.{Label}
-use Rattle.entries.specs.Store.{requiredAt}
-use Rattle.sets.specs.Held.{singlePoints}
 use Rattle.refusal.specs.Answer.{refusalOf}
 use Rattle.refusal.specs.declared.refusal.Refusal.{Refusal}
 use Rattle.form.specs.Formed.{Formed}
@@ -84,14 +77,3 @@ module _ (n : ℕ) (f ts w few : List ℕ) where
 -- An accepted problem, said of the table that its context holds.
 pub accepted-in : {n : ℕ} {f ts w few : List ℕ} {k : ℕ} → spec.Accepted n f ts × Problem n f ts w few k → spec.Accepted n (tableIn n w) ts × Problem n (tableIn n w) ts w few k
 accepted-in {n} {f} {ts} {w} {few} {k} h = subst (λ (l : List ℕ). spec.Accepted n l ts × Problem n l ts w few k) (sym (h .1 .table)) h
-
--- No single points: words that are 0 hold no point.
-zero-word : (k i : ℕ) → _≡_ {A = ℕ} (getD (replicate k 0) i 0) 0
-zero-word zero i = refl
-zero-word (suc k) zero = refl
-zero-word (suc k) (suc i) = zero-word k i
-
-pub no-singles : (n t k : ℕ) (l : List Required) → l ++ singlePoints n t (inSet (replicate k 0)) ≡ l
-no-singles n t k l =
-    ap (λ (ps : List ℕ). l ++ map (requiredAt n t Label) ps) (those-none (inSet (replicate k 0)) 0 (2 ^ n) (λ x a b. ap (λ (y : ℕ). eqb y 1) (no-bit (getD (replicate k 0) (x / 64) 0) (x % 64) (zero-word k (x / 64)))))
-    ∙ append-nil l

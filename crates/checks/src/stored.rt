@@ -8,6 +8,7 @@ ghost use Rattle.checks.specs.Problem.{Privileged};
 use legality::store::store_privileged;
 use sets::privileged::privileged_into;
 use sets::required::required_into;
+use sets::unvisited::unvisited_into;
 
 // The privileged cubes, in the context: at most one for each of 64 transitions.
 pub fn sets_into(n: usize, transitions: &[u16], context: &mut [u64])
@@ -19,11 +20,12 @@ pub fn sets_into(n: usize, transitions: &[u16], context: &mut [u64])
     store_privileged(n, &privileged[0..count], context);
 }
 
-// The required cubes, as many as there is room for; how many there are. No single point is one of them.
+// The required cubes, as many as there is room for; how many there are. Of the ones, those that no transition visits are single points.
 pub fn store_required(n: usize, context: &[u64], transitions: &[u16], out: &mut [u64]) -> usize
     requires { ⌜ Ready n (now context) (now transitions) ⌝ }
     ensures { λ r. ⌜ Held n (requiredIn n) (now (out .entry)) (now (out .exit)) r (required n (tableIn n (now (context .entry))) (now (transitions .entry))) ⌝ }
 {
-    let singles = [0u64; 16];
+    let mut singles = [0u64; 16];
+    unvisited_into(n, context, transitions, &mut singles);
     required_into(n, context, transitions, &singles, out)
 }

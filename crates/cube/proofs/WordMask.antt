@@ -1,6 +1,6 @@
 -- The bits of a cube's mask, and the words that the cube has points in.
 use mathlib.Core.Path.{_≡_, refl, sym, ap, _∙_, subst}
-use mathlib.Core.Bool.{not, _&&_}
+use mathlib.Core.Bool.{not, _&&_, _||_}
 use Prim.Native.Nat.{ℕ, zero, suc, _+_, _-_, _*_, _/_, _%_, _^_, _≤_, _<_}
 use native.Mathlib.Nat.{not-suc-le-zero, le-of-suc-le-suc, mod-lt, mod-eq-of-lt, zero-div, zero-add, add-zero, mod-one, one-mul, mul-one, zero-mul, add-comm, add-mul, mul-assoc, mul-comm, mul-le-mul-left, pow-suc, lt-of-lt-of-le, lt-of-le-of-lt}
 use native.Mathlib.Decide.{ℕ-discrete}
@@ -229,6 +229,10 @@ and-test a b i = ap (λ (y : ℕ). eqb y 1) (and-bits a b i) ∙ both-bits (a / 
 -- The same, in the order of the words.
 pub both-test : (a b i : ℕ) → eqb (bit (bitAnd a b) i) 1 ≡ (eqb (bit a i) 1 && eqb (bit b i) 1)
 both-test a b i = ap (λ (y : ℕ). eqb (bit y i) 1) (and-comm a b) ∙ and-test b a i
+
+-- A bit of an `or`.
+pub or-test : (a b i : ℕ) → eqb (bit (bitOr a b) i) 1 ≡ (eqb (bit a i) 1 || eqb (bit b i) 1)
+or-test a b i = ap (λ (y : ℕ). eqb y 1) (or-bits a b i) ∙ bit-case2 (λ x y. eqb (bitOr x y) 1 ≡ (eqb x 1 || eqb y 1)) refl refl refl refl (a / 2 ^ i) (b / 2 ^ i)
 
 -- A bit of a word without another word's bits, as a test.
 pub less-test : (a b i : ℕ) → eqb (bit (bitXor a (bitAnd a b)) i) 1 ≡ (eqb (bit a i) 1 && not (eqb (bit b i) 1))

@@ -1,13 +1,15 @@
 // A case is a line: `NAME: N; TABLE; TRANSITIONS; SIZE` for both calls with a buffer of this size, or `NAME: N; TABLE; TRANSITIONS;
-// = NETWORK` for the verifier alone. The table, the transitions and the network are runs; the table L is that of layers.
+// = NETWORK` for the verifier alone. The table, the transitions and the network are runs; the tables L and P have a rule.
 use crate::call::both;
-use crate::layers::fill_layers;
 use crate::place::find;
 use crate::place::number_at;
 use crate::place::skip;
+use crate::runs::LONGEST;
 use crate::runs::Read;
 use crate::runs::bytes_into;
 use crate::runs::numbers_into;
+use crate::tables::Table;
+use crate::tables::fill;
 use testing::calls::verifies;
 
 // The place after a field's end.
@@ -16,10 +18,10 @@ fn next_field(text: &[u8], at: usize) -> usize {
 }
 
 fn with_network(text: &[u8], from: usize, n: usize, table: &[u8], list: &[u16]) {
-    let mut network = [0u8; 20490];
+    let mut network = [0u8; LONGEST];
     let r = bytes_into(text, skip(text, from, b' '), &mut network);
     let count = r.count;
-    if count <= 20490 {
+    if count <= LONGEST {
         verifies(n, table, list, &network[0..count]);
     }
 }
@@ -45,11 +47,16 @@ fn with_table(text: &[u8], from: usize, n: usize, table: &[u8]) {
 
 fn table_into(text: &[u8], from: usize, table: &mut [u8]) -> Read {
     let at = skip(text, from, b'L');
-    if at == from {
-        return bytes_into(text, from, table);
+    if at != from {
+        fill(Table::Layers, table);
+        return Read { count: 1024, at };
     }
-    fill_layers(table);
-    Read { count: 1024, at }
+    let at = skip(text, from, b'P');
+    if at != from {
+        fill(Table::Parity, table);
+        return Read { count: 1024, at };
+    }
+    bytes_into(text, from, table)
 }
 
 fn with_inputs(text: &[u8], from: usize, n: usize) {

@@ -2,9 +2,9 @@
 // case's name and the answer.
 mod call;
 mod case;
-mod layers;
 mod place;
 mod runs;
+mod tables;
 
 fn main() {
     let mut text = io::large_buffer();

@@ -3,6 +3,7 @@ use crate::place::Number;
 use crate::place::is_digit_at;
 use crate::place::number_at;
 use crate::place::skip;
+use hazard::limits::MOST_PRODUCTS;
 
 // How many numbers were read, and the place after them.
 pub struct Read {
@@ -116,9 +117,12 @@ fn narrow(list: &[u16], bytes: &mut [u8]) {
     }
 }
 
-// The same as bytes: at most 20,490, one product of ten inputs more than a network may have.
+// As many bytes are read: one product of ten inputs more than a network may have.
+pub(crate) const LONGEST: usize = 10 * (MOST_PRODUCTS + 1);
+
+// The runs as bytes.
 pub(crate) fn bytes_into(text: &[u8], from: usize, bytes: &mut [u8]) -> Read {
-    let mut list = [0u16; 20490];
+    let mut list = [0u16; LONGEST];
     let r = numbers_into(text, from, &mut list);
     narrow(&list, bytes);
     r

@@ -3,3 +3,4 @@ pub mod Stepping
 pub mod Looking
 pub mod Agree
 pub mod Members
+pub mod Uniting

@@ -28,7 +28,7 @@ use Rattle.points.proofs.Looking.{visit-gap}
 use Rattle.points.proofs.Agree.{Agrees}
 
 -- Tests that agree give the same list, ranges one after the other give lists one after the other, and where none passes there is none.
-those-same : (s t : ℕ → Bool) (from size : ℕ) → ((x : ℕ) → from ≤ x → x < from + size → s x ≡ t x) → those s from size ≡ those t from size
+pub those-same : (s t : ℕ → Bool) (from size : ℕ) → ((x : ℕ) → from ≤ x → x < from + size → s x ≡ t x) → those s from size ≡ those t from size
 those-same s t from zero h = refl
 those-same s t from (suc size) h = go (s from) (t from) (h from (omega arith) (omega arith)) (those-same s t (suc from) size (λ x a b. h x (omega arith) (omega arith)))
   where

@@ -1,3 +1,4 @@
 pub mod PointWord
 pub mod Walk
 pub mod Found
+pub mod Union

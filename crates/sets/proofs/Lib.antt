@@ -1,3 +1,4 @@
 pub mod Word
 pub mod Makers
 pub mod Gather
+pub mod Leaving

@@ -1,16 +1,13 @@
 -- Words that hold a list, and the lists that they are to hold.
 use mathlib.Core.Path.{_≡_}
-use mathlib.Core.Bool.{Bool}
 use mathlib.Core.List.{List, map}
-use Prim.Native.Nat.{ℕ, _^_, _<_}
+use Prim.Native.Nat.{ℕ, _<_}
 use lib.ListN.{length, getD, take}
-use Rattle.hazard.specs.Search.{those}
 use Rattle.hazard.specs.Cube.{span}
 use Rattle.hazard.specs.Transition.{Kind}
 use Rattle.hazard.specs.Sets.{Required, Privileged, labels, startPoint}
 use Rattle.cube.specs.Entry.{CleanWord}
-use Rattle.entries.specs.declared.store.Corner.the-variants.{Label}
-use Rattle.entries.specs.Store.{requiredTo, requiredAt}
+use Rattle.entries.specs.Store.{requiredTo}
 
 -- The list l has r entries, and the words hold as many of them as there are words.
 pub record Held {A : Type 0} (n : ℕ) (read : ℕ → A) (before after : List ℕ) (r : ℕ) (l : List A) : Type 0 where
@@ -25,7 +22,3 @@ requiredBy n f k t a b = map (requiredTo n t (startPoint k a b)) (labels n f k a
 
 abbrev pub privilegedBy : ℕ → Kind → ℕ → ℕ → ℕ → Privileged
 privilegedBy n k t a b = record { transition = t; cube = span n a b; start = startPoint k a b }
-
--- The points of a set, each a required cube of its own, with t for their transition.
-abbrev pub singlePoints : ℕ → ℕ → (ℕ → Bool) → List Required
-singlePoints n t set = map (requiredAt n t Label) (those set 0 (2 ^ n))

@@ -5,14 +5,14 @@ ghost use Prim.Native.Nat.{_+_, _^_, _≤_, _<_};
 ghost use lib.ListN.{length};
 ghost use Rattle.hazard.specs.Search.{those};
 ghost use Rattle.hazard.specs.Transition.{count, Kind};
-ghost use Rattle.hazard.specs.Sets.{maximalLabel, required};
+ghost use Rattle.hazard.specs.Sets.{maximalLabel, singlePoints, ofTransitions};
 ghost use Rattle.cube.specs.Entry.{requiredIn};
 ghost use Rattle.cube.specs.PointSet.{inSet};
 ghost use Rattle.context.specs.Context.{tableIn, Planes};
 ghost use Rattle.kinds.specs.Codes.{kindIs};
 ghost use Rattle.kinds.specs.Ready.{Ready};
 ghost use Rattle.entries.specs.Store.{Stored, requiredTo};
-ghost use Rattle.sets.specs.Held.{Held, requiredBy, singlePoints};
+ghost use Rattle.sets.specs.Held.{Held, requiredBy};
 use context::places::ones;
 use cube::mask::Cube;
 use cube::mask::span_of;
@@ -101,8 +101,8 @@ fn transition_into(
     }
 }
 
-// The required cubes, in order of transition and label, and after them the points of the set that is handed in; how many. As many are
-// stored as there is room for.
+// The required cubes of the transitions, in order of transition and label, and after them the points of the set that is handed in; how
+// many. As many are stored as there is room for.
 pub fn required_into(
     n: usize,
     context: &[u64],
@@ -111,7 +111,7 @@ pub fn required_into(
     out: &mut [u64],
 ) -> usize
     requires { ⌜ Ready n (now context) (now transitions) × (length (now singles) ≡ 16) ⌝ }
-    ensures { λ r. ⌜ Held n (requiredIn n) (now (out .entry)) (now (out .exit)) r (required n (tableIn n (now (context .entry))) (now (transitions .entry)) ++ singlePoints n (count (now (transitions .entry))) (inSet (now (singles .entry)))) ⌝ }
+    ensures { λ r. ⌜ Held n (requiredIn n) (now (out .entry)) (now (out .exit)) r (ofTransitions n (tableIn n (now (context .entry))) (now (transitions .entry)) ++ singlePoints n (count (now (transitions .entry))) (inSet (now (singles .entry)))) ⌝ }
 {
     let count = transitions.len() / 2;
     let mut k = 0;

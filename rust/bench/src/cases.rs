@@ -1,5 +1,6 @@
 //! Inputs.
 
+use crate::exact::fewest;
 use problems::{accepted, threshold, Problem, Rng, Shape};
 
 pub struct Case {
@@ -28,6 +29,11 @@ impl Cases {
     /// Products that the proved, the independent and the joining minimiser write.
     pub fn products(&self) -> [f64; 3] {
         [0, 1, 2].map(|k| self.mean(|c| c.products()[k]))
+    }
+
+    /// The least number of products.
+    pub fn fewest(&self) -> f64 {
+        self.mean(|c| fewest(&c.problem, c.products()[0]))
     }
 
     /// Products that the verifier reads.
@@ -70,11 +76,11 @@ impl Case {
         ]
     }
 
-    /// The network made up to 2,048 products by its first one, put in front. Every other required cube is found at the end only.
+    /// The network made as long as it may be by its first product, put in front. Every other required cube is found at the end only.
     fn lengthened(mut self) -> Case {
         let n = self.problem.n;
         let mut long = Vec::new();
-        for _ in self.network.len() / n..2048 {
+        for _ in self.network.len() / n..quiet::MOST_PRODUCTS {
             long.extend_from_slice(&self.network[..n]);
         }
         long.extend_from_slice(&self.network);
@@ -105,6 +111,18 @@ fn shape(n: usize, transitions: usize) -> Shape {
     }
 }
 
+/// Few transitions, and half of the points 1.
+fn plain(n: usize) -> Shape {
+    Shape {
+        n,
+        transitions: 4,
+        widest: 4,
+        corners: 6,
+        dont_cares: 0,
+        zeros: 50,
+    }
+}
+
 fn thresholds(name: String, required: usize, count: usize) -> Cases {
     let mut rng = Rng::new(3);
     let cases = (0..count).map(|_| {
@@ -118,15 +136,36 @@ fn thresholds(name: String, required: usize, count: usize) -> Cases {
     }
 }
 
-pub const KINDS: [&str; 3] = ["typical", "large", "worst"];
+pub const KINDS: [&str; 4] = ["typical", "large", "plain", "worst"];
 
 pub fn kind(name: &str) -> Cases {
     match name {
         "typical" => random(name.into(), 1, &shape(8, 20), 40),
         "large" => random(name.into(), 2, &shape(10, 64), 40),
-        "worst" => thresholds(name.into(), 2048, 2),
-        _ => panic!("typical, large or worst"),
+        "plain" => random(name.into(), 6, &plain(10), 20),
+        "worst" => thresholds(name.into(), quiet::MOST_REQUIRED, 2),
+        _ => panic!("typical, large, plain or worst"),
     }
+}
+
+/// Problems of few inputs, with and without transitions that change several of them, for the exact minimum.
+pub fn small() -> Vec<Cases> {
+    let mut all = Vec::new();
+    for n in [5, 6] {
+        all.push(random(format!("plain, {n} inputs"), 7, &plain(n), 200));
+        let mixed = Shape {
+            dont_cares: 30,
+            zeros: 35,
+            ..shape(n, n)
+        };
+        all.push(random(
+            format!("{n} transitions, {n} inputs"),
+            8,
+            &mixed,
+            200,
+        ));
+    }
+    all
 }
 
 pub fn growth_by_inputs() -> Vec<Cases> {
@@ -143,6 +182,8 @@ pub fn growth_by_transitions() -> Vec<Cases> {
 
 pub fn growth_by_required() -> Vec<Cases> {
     (5..=11)
-        .map(|k| thresholds((1 << k).to_string(), 1 << k, 2))
+        .map(|k| 1 << k)
+        .chain([quiet::MOST_REQUIRED])
+        .map(|required| thresholds(required.to_string(), required, 2))
         .collect()
 }

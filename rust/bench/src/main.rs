@@ -1,13 +1,16 @@
 //! The proved calls and the independent ones, timed on the same inputs in one run.
 //!
 //! Without arguments: all tables. `once IMPLEMENTATION CALL KIND TIMES` runs one of them alone, for counting instructions:
-//! IMPLEMENTATION is `proved`, `independent`, `joining` or `none` (which only makes the inputs), CALL `minimise` or `verify`, KIND `typical`, `large`
-//! or `worst`.
+//! IMPLEMENTATION is `proved`, `independent`, `joining` or `none` (which only makes the inputs), CALL `minimise` or `verify`, KIND `typical`, `large`,
+//! `plain` or `worst`. `fewest` counts products against the exact minimum.
 
 mod cases;
+mod exact;
 mod timing;
 
-use cases::{growth_by_inputs, growth_by_required, growth_by_transitions, kind, Cases, KINDS};
+use cases::{
+    growth_by_inputs, growth_by_required, growth_by_transitions, kind, small, Cases, KINDS,
+};
 use timing::{run, Call, Implementation};
 
 fn main() {
@@ -15,10 +18,11 @@ fn main() {
     let words: Vec<&str> = words.iter().map(String::as_str).collect();
     match words[..] {
         [] => tables(),
+        ["fewest"] => products_table(),
         ["once", implementation, call, kind, times] => {
             once(implementation, call, kind, times.parse().expect("times"))
         }
-        _ => panic!("once IMPLEMENTATION CALL KIND TIMES"),
+        _ => panic!("nothing, fewest, or once IMPLEMENTATION CALL KIND TIMES"),
     }
 }
 
@@ -52,6 +56,22 @@ fn tables() {
         table("transitions, 8 inputs", growth_by_transitions(), call);
         table("required cubes, 10 inputs", growth_by_required(), call);
     }
+    products_table();
+}
+
+/// Products of each minimiser in all problems of a kind, and the least number that there can be.
+fn products_table() {
+    println!("| problems | required cubes | fewest products | proved | ratio | independent | ratio | joining | ratio |");
+    println!("|---|---|---|---|---|---|---|---|---|");
+    for cases in small() {
+        let fewest = cases.fewest();
+        print!("| {} | {:.1} | {fewest:.2} |", cases.name, cases.required());
+        for products in cases.products() {
+            print!(" {products:.2} | {:.3} |", products / fewest);
+        }
+        println!();
+    }
+    println!();
 }
 
 fn table(title: &str, rows: Vec<Cases>, call: Call) {

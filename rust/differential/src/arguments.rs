@@ -24,7 +24,8 @@ fn transition_count(rng: &mut Rng) -> usize {
 /// A problem of any family.
 pub fn problem(rng: &mut Rng) -> Problem {
     match rng.below(100) {
-        0..=53 => consistent(rng),
+        0..=48 => consistent(rng),
+        49..=53 => plain(rng),
         54..=63 => crowded(rng),
         64..=83 => {
             let mut p = consistent(rng);
@@ -49,6 +50,20 @@ fn consistent(rng: &mut Rng) -> Problem {
         corners: 1 + rng.below(6),
         dont_cares: rng.pick(&[0, 20, 50, 80, 95, 100]),
         zeros: rng.pick(&[0, 2, 10, 50]),
+    };
+    accepted(rng, &shape)
+}
+
+/// Few transitions and no don't cares: most ones are visited by none.
+fn plain(rng: &mut Rng) -> Problem {
+    let n = inputs(rng);
+    let shape = Shape {
+        n,
+        transitions: 1 + rng.below(4),
+        widest: 1 + rng.below(n),
+        corners: 1 + rng.below(6),
+        dont_cares: 0,
+        zeros: rng.pick(&[5, 50, 90]),
     };
     accepted(rng, &shape)
 }
@@ -114,9 +129,9 @@ fn structured(rng: &mut Rng) -> Problem {
 /// About as many required cubes as are allowed.
 fn many_required(rng: &mut Rng) -> Problem {
     let required = match rng.below(3) {
-        0 => 2048 - rng.below(3),
-        1 => 2049 + rng.below(40),
-        _ => 1 + rng.below(2100),
+        0 => fast::MOST_REQUIRED - rng.below(3),
+        1 => fast::MOST_REQUIRED + 1 + rng.below(40),
+        _ => 1 + rng.below(fast::MOST_REQUIRED + 50),
     };
     threshold(rng, required)
 }
@@ -271,7 +286,8 @@ fn change(rng: &mut Rng, n: usize, network: &mut Vec<u8>) {
         }
         // the edge of check 11; the long networks are dear, so there are few
         15 if count > 0 && rng.below(40) == 0 => {
-            let length = n * rng.pick(&[2047, 2048, 2048, 2049]);
+            let most = fast::MOST_PRODUCTS;
+            let length = n * rng.pick(&[most - 1, most, most, most + 1]);
             let long: Vec<u8> = network.iter().copied().cycle().take(length).collect();
             *network = long;
         }

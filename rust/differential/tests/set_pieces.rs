@@ -18,7 +18,7 @@ fn problem(table: &str, transitions: &[u16]) -> Problem {
 
 /// What both minimisers answer: the products as they are written, or the refusal as it is printed.
 fn minimised(p: &Problem) -> String {
-    let length = p.n * 2048;
+    let length = p.n * quiet::MOST_REQUIRED;
     let mut rng = Rng::new(1);
     match same_minimise(&mut rng, &mut Tally::default(), p, length) {
         Some(network) => {
@@ -69,7 +69,7 @@ fn set_pieces() {
     assert_eq!(minimised(&problem("11", &[0, 1])), "2");
     assert_eq!(minimised(&k2), "02 20");
     assert_eq!(minimised(&problem("0111", &[1, 2])), "refused 7 0 0 0 0");
-    assert_eq!(minimised(&k4), "112");
+    assert_eq!(minimised(&k4), "112 120 211");
     assert_eq!(verified(&k4, &["120", "211"]), [4, 0, 0, 0, 7]);
     assert_eq!(verified(&k4, &["120", "211", "112"]), [1, 0, 0, 0, 0]);
     assert_eq!(minimised(&k7), "refused 10 0 3 1 7");
@@ -101,20 +101,43 @@ fn edges_of_the_transitions() {
 #[test]
 fn edges_of_the_required_cubes() {
     let mut rng = Rng::new(1);
-    let most = threshold(&mut rng, 2048);
+    let most = threshold(&mut rng, quiet::MOST_REQUIRED);
     let count = fast::required_count(10, &most.table, &most.transitions);
-    assert_eq!(count, Ok(2048));
+    assert_eq!(count, Ok(quiet::MOST_REQUIRED));
     assert!(!minimised(&most).starts_with("refused"));
-    let above = threshold(&mut rng, 2049);
+    let above = threshold(&mut rng, quiet::MOST_REQUIRED + 1);
     assert_eq!(minimised(&above), "refused 8 0 0 0 0");
+}
+
+#[test]
+fn ones_that_no_transition_visits() {
+    let k4 = problem("01010011", &[3, 7]);
+    assert_eq!(verified(&k4, &["112"]), [4, 0, 0, 1, 1]);
+    assert_eq!(verified(&k4, &["112", "120"]), [4, 0, 0, 1, 6]);
+    // the number of transitions is no transition, whatever stands at point 0
+    assert_eq!(
+        verified(&problem("1001", &[0, 0]), &["00"]),
+        [4, 0, 0, 1, 3]
+    );
+    assert_eq!(verified(&problem("0001", &[1, 1]), &[]), [4, 0, 0, 1, 3]);
+    assert_eq!(
+        verified(&problem("1001", &[3, 3]), &["11"]),
+        [4, 0, 0, 1, 0]
+    );
+    assert_eq!(minimised(&problem("0110 1001", &[0, 0])), "001 010 100 111");
+    assert_eq!(
+        minimised(&problem(&"1".repeat(1024), &[0, 0])),
+        "2222222222"
+    );
 }
 
 #[test]
 fn edges_of_the_network() {
     let p = problem("11", &[0, 1]);
-    let most = ["2"; 2048];
+    let most = ["2"; quiet::MOST_PRODUCTS];
     assert_eq!(verified(&p, &most), [1, 0, 0, 0, 0]);
-    assert_eq!(verified(&p, &["2"; 2049]), [0, 11, 0, 0, 0]);
+    let above = ["2"; quiet::MOST_PRODUCTS + 1];
+    assert_eq!(verified(&p, &above), [0, 11, 0, 0, 0]);
     let odd = problem("1111", &[0, 1]);
     assert_eq!(verified(&odd, &["2"]), [0, 11, 0, 0, 0]);
     assert_eq!(verified(&odd, &["22", "23"]), [0, 12, 1, 0, 0]);

@@ -13,12 +13,14 @@ mod cube;
 mod legal;
 mod minimise;
 mod planes;
+mod primes;
 mod problem;
 pub mod promise;
 mod refusal;
 mod verify;
 
 pub use minimise::{minimise, minimise_joining};
-pub use problem::{required_count, required_cubes};
+pub use primes::primes_over;
+pub use problem::{required_count, required_cubes, MOST_REQUIRED};
 pub use refusal::Refusal;
-pub use verify::{verify, Verdict};
+pub use verify::{verify, Verdict, MOST_PRODUCTS};

@@ -4,7 +4,7 @@ use crate::cube::{lowest, write_ranked, Cube, Set, INPUT};
 use crate::planes::planes;
 use crate::refusal::Refusal;
 
-pub const MOST_REQUIRED: usize = 2048;
+pub const MOST_REQUIRED: usize = 3072;
 
 #[derive(Clone, Copy, Debug)]
 pub struct Required {
@@ -151,13 +151,40 @@ impl Problem {
         for (k, pair) in transitions.chunks_exact(2).enumerate() {
             count += problem.take(&ones, k, pair[0], pair[1], full)?;
         }
+        count += problem.take_unvisited(&ones, transitions, full);
         if count > MOST_REQUIRED {
             return Err(Refusal::new(8));
         }
         Ok(problem)
     }
 
-    /// Check 7 of a transition; its cubes are stored, and the required ones counted. Above 2,048 they are only counted.
+    /// The ones that no transition visits are required cubes of their own, with the number of transitions; how many.
+    fn take_unvisited(&mut self, ones: &Set, transitions: &[u16], full: u16) -> usize {
+        let mut left = *ones;
+        for pair in transitions.chunks_exact(2) {
+            let cube = Cube::spanned(pair[0], pair[1], full);
+            let low = cube.low();
+            for w in cube.words(self.words) {
+                left[w] &= !low;
+            }
+        }
+        let mut count = 0;
+        for (w, mut points) in left.into_iter().enumerate() {
+            count += points.count_ones() as usize;
+            while points != 0 && self.required.len() < MOST_REQUIRED {
+                let point = (64 * w) as u16 + points.trailing_zeros() as u16;
+                points &= points - 1;
+                self.required.push(Required {
+                    cube: Cube::spanned(point, point, full),
+                    transition: (transitions.len() / 2) as u16,
+                    label: point,
+                });
+            }
+        }
+        count
+    }
+
+    /// Check 7 of a transition; its cubes are stored, and the required ones counted. Above the limit they are only counted.
     fn take(&mut self, ones: &Set, k: usize, a: u16, b: u16, full: u16) -> Result<usize, Refusal> {
         let cube = Cube::spanned(a, b, full);
         let refused = |point| Err(Refusal::at(7, k, point));

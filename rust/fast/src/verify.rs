@@ -7,7 +7,7 @@ use crate::planes::planes;
 use crate::problem::{Problem, Required};
 use crate::refusal::Refusal;
 
-const MOST_PRODUCTS: usize = 2048;
+pub const MOST_PRODUCTS: usize = 3072;
 
 /// What a network is found to be.
 #[derive(Clone, Copy, Debug, PartialEq, Eq)]

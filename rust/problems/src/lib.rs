@@ -134,9 +134,9 @@ fn place(rng: &mut Rng, table: &mut [u8], a: usize, differ: usize, corners: usiz
 }
 
 /// Ten inputs, value 1 where at most five are 1, and transitions that only switch inputs on: each falls, and has as many required cubes
-/// as there are ways to reach five. Together they have the wished number of required cubes, up to 2,200.
+/// as there are ways to reach five. Ones that no transition visits are don't cares, so only the transitions have required cubes. Together
+/// they have the wished number of them, up to 4,400.
 pub fn threshold(rng: &mut Rng, required: usize) -> Problem {
-    let table = (0..1024u32).map(|p| u8::from(p.count_ones() <= 5));
     let mut transitions = Vec::new();
     let mut push = |on: u32, more: u32, rng: &mut Rng| loop {
         let a = rng.below(1024) as u16;
@@ -148,8 +148,9 @@ pub fn threshold(rng: &mut Rng, required: usize) -> Problem {
     };
     let mut left = required;
     while left > 0 {
-        // 35 = 7 over 3 = 7 over 4, 6 = 4 over 2, 1 = 1 over 0
+        // 70 = 8 over 4, 35 = 7 over 3 = 7 over 4, 6 = 4 over 2, 1 = 1 over 0
         let (count, on, more) = match left {
+            70.. if required > 2200 => (70, 1, 8),
             35.. => (35, 1 + rng.below(2) as u32, 7),
             6.. => (6, 3, 4),
             _ => (1, 5, 1),
@@ -157,9 +158,18 @@ pub fn threshold(rng: &mut Rng, required: usize) -> Problem {
         push(on, more, rng);
         left -= count;
     }
+    let mut table: Vec<u8> = (0..1024u32)
+        .map(|p| if p.count_ones() <= 5 { 2 } else { 0 })
+        .collect();
+    for pair in transitions.chunks_exact(2) {
+        let a = usize::from(pair[0]);
+        for s in submasks(usize::from(pair[0] ^ pair[1])) {
+            table[a ^ s] = u8::from((a ^ s).count_ones() <= 5);
+        }
+    }
     Problem {
         n: 10,
-        table: table.collect(),
+        table,
         transitions,
     }
 }

@@ -9,12 +9,13 @@
 //! passes slices to them and unpacks what they return.
 //!
 //! ```
-//! // the product of inputs 0 and 1 has to stay while input 2 changes
+//! // the product of inputs 0 and 1 has to stay while input 2 changes; the others hold the points 1 and 6, which no transition visits
 //! let table = [0, 1, 0, 1, 0, 0, 1, 1];
 //! let products = quiet::products(3, &table, &[[3, 7]])?;
-//! assert_eq!(products.len(), 1);
-//! assert_eq!(products[0].to_string(), "11-");
-//! assert_eq!(quiet::verify(3, &table, &[[3, 7]], &[1, 1, 2])?, quiet::Verdict::Passed);
+//! let printed: Vec<String> = products.iter().map(|p| p.to_string()).collect();
+//! assert_eq!(printed, ["11-", "1-0", "-11"]);
+//! let network = [1, 1, 2, 1, 2, 0, 2, 1, 1];
+//! assert_eq!(quiet::verify(3, &table, &[[3, 7]], &network)?, quiet::Verdict::Passed);
 //! # Ok::<(), quiet::Refusal>(())
 //! ```
 //!
@@ -49,13 +50,16 @@ pub type Transition = [u16; 2];
 pub const MOST_INPUTS: usize = 10;
 
 /// The most required cubes, and so the most products of a minimal network. A buffer of n times as many bytes is always long enough.
-pub const MOST_PRODUCTS: usize = 2048;
+pub const MOST_REQUIRED: usize = 3072;
+
+/// The most products of a network that is verified.
+pub const MOST_PRODUCTS: usize = 3072;
 
 /// Writes a minimal hazard-free network into `cover`, one product of n bytes after another, and returns how many there are.
 ///
 /// The products stand in ascending order of their bytes, compared from input 0 on, so an absent literal (2, printed `-`) comes after both
 /// others. Bytes after the last product keep their contents, and so does the whole buffer after a refusal. The buffer has to have n bytes
-/// for each required cube.
+/// for each required cube; each 1 that no transition visits is one.
 ///
 /// ```
 /// let mut cover = [9; 6];
@@ -82,14 +86,14 @@ pub fn products(
     table: &[u8],
     transitions: &[Transition],
 ) -> Result<Vec<Product>, Refusal> {
-    let mut cover = vec![0; n.min(MOST_INPUTS) * MOST_PRODUCTS];
+    let mut cover = vec![0; n.min(MOST_INPUTS) * MOST_REQUIRED];
     let count = minimise(n, table, transitions, &mut cover)?;
     let bytes = &cover[..n * count];
     Ok(bytes.chunks_exact(n).map(Product::from_bytes).collect())
 }
 
 /// Whether a network, products of n bytes one after another, is hazard-free for the table and the transitions: passed, or the first
-/// fault.
+/// fault. A 1 that no transition visits has no transition: where it is left uncovered, their number is named.
 ///
 /// ```
 /// use quiet::Verdict;
@@ -97,6 +101,10 @@ pub fn products(
 /// assert_eq!(
 ///     quiet::verify(3, &table, &[[3, 7]], &[1, 2, 0, 2, 1, 1]),
 ///     Ok(Verdict::Uncovered { transition: 0, label: 7 })
+/// );
+/// assert_eq!(
+///     quiet::verify(3, &table, &[[3, 7]], &[1, 1, 2]),
+///     Ok(Verdict::Uncovered { transition: 1, label: 1 })
 /// );
 /// ```
 pub fn verify(

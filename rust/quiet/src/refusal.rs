@@ -1,6 +1,7 @@
 //! Refusals.
 
 use crate::packed::field;
+use crate::{MOST_PRODUCTS, MOST_REQUIRED};
 use std::error::Error;
 use std::fmt;
 
@@ -23,19 +24,19 @@ pub enum Refusal {
     /// 7: the rule of a transition's kind is broken. The point is the wrong value of a static transition, or the one before the wrong
     /// move of a dynamic one.
     Rule { transition: u16, point: u16 },
-    /// 8: more than 2,048 required cubes.
+    /// 8: more than [`MOST_REQUIRED`] required cubes.
     RequiredCubes,
     /// 9: minimiser: the buffer is shorter than n times the number of required cubes.
     Buffer,
     /// 10: minimiser: a required cube blocks, so no network is hazard-free. The first such cube is named by its transition and label,
-    /// with the steps of its growth and the lowest zero that it ends at.
+    /// with the steps of its growth and the lowest zero that it ends at. The transition is always one of the list.
     Blocked {
         transition: u16,
         label: u16,
         steps: u16,
         lowest_zero: u16,
     },
-    /// 11: verifier: the network's length is no multiple of n, or it has more than 2,048 products.
+    /// 11: verifier: the network's length is no multiple of n, or it has more than [`MOST_PRODUCTS`] products.
     NetworkLength,
     /// 12: verifier: a byte above 2 in the network, in the first such product.
     NetworkByte { product: u16 },
@@ -116,7 +117,7 @@ impl fmt::Display for Refusal {
             Refusal::Rule { transition, point } => {
                 write!(f, "the kind's rule is broken: transition {transition}, point {point}")
             }
-            Refusal::RequiredCubes => f.write_str("more than 2,048 required cubes"),
+            Refusal::RequiredCubes => write!(f, "more than {MOST_REQUIRED} required cubes"),
             Refusal::Buffer => f.write_str("buffer shorter than n × required cubes"),
             Refusal::Blocked {
                 transition,
@@ -128,7 +129,7 @@ impl fmt::Display for Refusal {
                 "a required cube blocks: transition {transition}, label {label}, steps {steps}, lowest zero {lowest_zero}"
             ),
             Refusal::NetworkLength => {
-                f.write_str("network length no multiple of n, or above 2,048 products")
+                write!(f, "network length no multiple of n, or above {MOST_PRODUCTS} products")
             }
             Refusal::NetworkByte { product } => {
                 write!(f, "a network byte above 2: product {product}")
