@@ -61,9 +61,12 @@ visiting-more n ts t {before} {set} {after} h {c} e j =
       is = λ x l.
           j .is x l ∙ ap₂ (λ (a b : Bool). a || (b && ltb x (2 ^ n))) (h .is x l) (ap (λ (d : digits.Cube). has d x) e)
           ∙ regroup (inSet before x) (visitedBy n ts t x) (visits n ts t x) (ltb x (2 ^ n))
-          ∙ ap (λ (b : Bool). inSet before x || (b && ltb x (2 ^ n))) (sym (rw (add-one t) (any-more (λ k. visits n ts k x) 0 t) ∙ ap (λ (k : ℕ). visitedBy n ts t x || visits n ts k x) (zero-add t)));
+          ∙ ap (λ (b : Bool). inSet before x || (b && ltb x (2 ^ n))) (sym (visited-more x));
     }
   where
+    visited-more : (x : ℕ) → visitedBy n ts (t + 1) x ≡ (visitedBy n ts t x || visits n ts t x)
+    visited-more x = rw (add-one t) (any-more (λ k. visits n ts k x) 0 t ∙ ap (λ (k : ℕ). visitedBy n ts t x || visits n ts k x) (zero-add t))
+
     regroup : (a v h l : Bool) → ((a || (v && l)) || (h && l)) ≡ (a || ((v || h) && l))
     regroup true v h l = refl
     regroup false true h true = refl

@@ -4,7 +4,7 @@ use native.Mathlib.Nat.{sub-zero}
 use native.Mathlib.Omega.{arith}
 use lib.ListN.{length, length-append}
 use Rattle.hazard.specs.Transition as spec
-use Rattle.hazard.specs.Sets.{required, requiredOf, requiredFrom}
+use Rattle.hazard.specs.Sets.{requiredOf, requiredFrom, ofTransitions}
 use Rattle.cube.specs.Entry.{requiredIn}
 use Rattle.context.specs.Context.{tableIn}
 use Rattle.kinds.specs.Codes.{kindIs}
@@ -19,13 +19,13 @@ use Rattle.sets.proofs.required.required_into.Tie as tie
 
 abbrev Inv-loop : tie.InvT-loop
 Inv-loop n context transitions singles out₀ count k₀ t₀ out k t =
-    (t ≤ spec.count transitions) × Filling n (requiredIn n) out₀ out 0 k (requiredFrom n (tableIn n context) transitions t (spec.count transitions - t)) (required n (tableIn n context) transitions)
+    (t ≤ spec.count transitions) × Filling n (requiredIn n) out₀ out 0 k (requiredFrom n (tableIn n context) transitions t (spec.count transitions - t)) (ofTransitions n (tableIn n context) transitions)
 
 abbrev μ-loop : tie.MeasureT-loop
 μ-loop n context transitions singles out₀ count k₀ t₀ out k t = spec.count transitions - t
 
 loop-holds : tie.Need-loop-holds Inv-loop μ-loop
-loop-holds c = let a = c .before .before .before .before .args in (omega arith, rw sub-zero (filling-start (a .n) (requiredIn (a .n)) (a .out .now) 0 (required (a .n) (tableIn (a .n) (a .context .now)) (a .transitions .now))))
+loop-holds c = let a = c .before .before .before .before .args in (omega arith, rw sub-zero (filling-start (a .n) (requiredIn (a .n)) (a .out .now) 0 (ofTransitions (a .n) (tableIn (a .n) (a .context .now)) (a .transitions .now))))
 
 kind-of-requires : tie.Need-kind-of-requires Inv-loop μ-loop
 kind-of-requires c κs =
