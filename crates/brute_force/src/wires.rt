@@ -16,7 +16,7 @@ pub enum Found {
 }
 
 // As many wires of one transition are tried.
-const WIDEST: u32 = 16;
+const WIDEST: u32 = 24;
 
 // Whether some further wire gives another value than `last`.
 fn leaves(net: Network, a: u64, moved: u64, moving: u64, last: bool) -> bool {

@@ -7,7 +7,7 @@ abbrev Inv-loop : tie.InvT-loop
 Inv-loop p net blocking i₀ i = i₀ ≤ i
 
 abbrev μ-loop : tie.MeasureT-loop
-μ-loop p net blocking i₀ i = 128 - i
+μ-loop p net blocking i₀ i = 144 - i
 
 returns : tie.Need-returns Inv-loop μ-loop
 returns c = search needs
