@@ -9,13 +9,7 @@ pub enum Table {
 fn value_of(table: Table, x: usize) -> u8 {
     let ones = u32::count_ones((x % 1024) as u32);
     match table {
-        Table::Layers => {
-            if ones <= 5 {
-                1
-            } else {
-                0
-            }
-        }
+        Table::Layers => { if ones <= 5 { 1 } else { 0 } }
         Table::Parity => (ones % 2) as u8,
     }
 }

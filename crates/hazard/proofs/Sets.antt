@@ -12,7 +12,7 @@ use lib.Dec.{T}
 use Rattle.hazard.specs.Search.{those}
 use Rattle.hazard.specs.Cube.{span}
 use Rattle.hazard.specs.Transition.{start, end, count, visits, visited, Kind, low, rise, fall, high}
-use Rattle.hazard.specs.Sets.{Required, Privileged, maximalLabel, labels, dynamic, kindAt, startAt, requiredOf, requiredFrom, ofTransitions, unvisited, ofPoints, required, privilegedFrom, privileged}
+use Rattle.hazard.specs.Sets.{Required, Privileged, maximalLabel, labels, dynamic, kindAt, startAt, singlePoints, requiredOf, requiredFrom, ofTransitions, unvisited, ofPoints, required, privilegedFrom, privileged}
 use Rattle.hazard.proofs.Test.{so, so-not}
 use Rattle.hazard.proofs.Search.{any-e, any-i, those-e, those-i, those-order}
 use Rattle.hazard.proofs.Cube.{Digits, span-digits}
@@ -28,6 +28,23 @@ visited-i n ts x k l t = any-i (λ k. visits n ts k x) (count ts) k l t
 -- The single point x.
 abbrev pub pointAt : ℕ → List ℕ → ℕ → Required
 pointAt n ts x = record { transition = count ts; label = x; cube = span n x x }
+
+-- In order of transition, and for one transition in order of label.
+abbrev pub Before : Required → Required → Type 0
+Before r s = (r .transition ≤ s .transition) × (r .transition ≡ s .transition → r .label < s .label)
+
+before-prop : (r s : Required) → IsProp (Before r s)
+before-prop r s = ×-prop le-prop (→-prop le-prop)
+
+labels-order : (n : ℕ) (f : List ℕ) (k : Kind) (a b : ℕ) → Pairwise (λ x y. x < y) (labels n f k a b)
+labels-order n f low a b = Pairwise·nil
+labels-order n f rise a b = those-order (maximalLabel n f b a) 0 (2 ^ n)
+labels-order n f fall a b = those-order (maximalLabel n f a b) 0 (2 ^ n)
+labels-order n f high a b = pairwise-singleton (λ x y. x < y) b
+
+-- Single points stand in ascending order.
+points-order : (n k : ℕ) (set : ℕ → Bool) → Pairwise Before (singlePoints n k set)
+points-order n k set = Pairwise·map {S = Before} before-prop (λ x. record { transition = k; label = x; cube = span n x x }) (λ x y l. (omega arith, λ e. l)) (those-order set 0 (2 ^ n))
 
 module _ (n : ℕ) (f ts : List ℕ) where
   -- The labels of transition k, and its required cube with the label x.
@@ -74,6 +91,40 @@ module _ (n : ℕ) (f ts : List ℕ) where
       let (x, m, e) = Memᴰ·of-map (pointAt n ts) (those (unvisited n f ts) 0 (2 ^ n)) t in
       let w = those-e (unvisited n f ts) 0 (2 ^ n) m in
       (x, omega (arith, w .1), w .2, e)
+
+  requiredFrom-order : (from m : ℕ) → Pairwise Before (requiredFrom n f ts from m)
+  requiredFrom-order from zero = Pairwise·nil
+  requiredFrom-order from (suc m) =
+      pairwise-append before-prop .1 (
+        Pairwise·map {S = Before} before-prop (requiredAt from) (λ x y l. (omega arith, λ e. l)) (labels-order n f (kindAt f ts from) (start ts from) (end ts from)),
+        requiredFrom-order (suc from) m,
+        λ r t s u. ∥∥₁-elim t (before-prop r s) (λ d. ∥∥₁-elim u (before-prop r s) (λ e. later r s d e)),
+      )
+    where
+      later : (r s : Required) → List·Memᴰ r (requiredOf n f ts from) → List·Memᴰ s (requiredFrom n f ts (suc from) m) → Before r s
+      later r s d e =
+          let w = Memᴰ·of-map (requiredAt from) (labelsAt from) d in
+          let v = requiredFrom-e (suc from) m e in
+          let i : from ≡ r .transition = ap (λ (q : Required). q .transition) (w .2) in
+          let j : v .0 ≡ s .transition = ap (λ (q : Required). q .transition) (v .5) in
+          (omega (arith, v .2), λ c. absurd (omega (arith, v .2)))
+
+  -- The required cubes stand in order of transition, then of label, the single points after all others.
+  pub required-order : Pairwise Before (required n f ts)
+  required-order =
+      pairwise-append before-prop .1 (
+        requiredFrom-order 0 (count ts),
+        points-order n (count ts) (unvisited n f ts),
+        λ r t s u. ∥∥₁-elim t (before-prop r s) (λ d. ∥∥₁-elim u (before-prop r s) (λ e. later r s d e)),
+      )
+    where
+      later : (r s : Required) → List·Memᴰ r (ofTransitions n f ts) → List·Memᴰ s (ofPoints n f ts) → Before r s
+      later r s d e =
+          let (k, x, l, m, g) = transition-e d in
+          let (y, b, t, h) = point-e e in
+          let i : k ≡ r .transition = ap (λ (q : Required). q .transition) g in
+          let j : count ts ≡ s .transition = ap (λ (q : Required). q .transition) h in
+          (omega arith, λ c. absurd (omega arith))
 
   -- A required cube is one or the other.
   pub required-transition : {r : Required} → List·Memᴰ r (ofTransitions n f ts) → List·Memᴰ r (required n f ts)
@@ -135,51 +186,3 @@ module _ (n : ℕ) (f ts : List ℕ) where
   -- The privileged cubes stand in order of transition, each transition at most once.
   pub privileged-order : Pairwise (λ (v w : Privileged). v .transition < w .transition) (privileged n f ts)
   privileged-order = privilegedFrom-order 0 (count ts)
-
--- In order of transition, and for one transition in order of label.
-abbrev pub Before : Required → Required → Type 0
-Before r s = (r .transition ≤ s .transition) × (r .transition ≡ s .transition → r .label < s .label)
-
-before-prop : (r s : Required) → IsProp (Before r s)
-before-prop r s = ×-prop le-prop (→-prop le-prop)
-
-labels-order : (n : ℕ) (f : List ℕ) (k : Kind) (a b : ℕ) → Pairwise (λ x y. x < y) (labels n f k a b)
-labels-order n f low a b = Pairwise·nil
-labels-order n f rise a b = those-order (maximalLabel n f b a) 0 (2 ^ n)
-labels-order n f fall a b = those-order (maximalLabel n f a b) 0 (2 ^ n)
-labels-order n f high a b = pairwise-singleton (λ x y. x < y) b
-
-module _ (n : ℕ) (f ts : List ℕ) where
-  requiredFrom-order : (from m : ℕ) → Pairwise Before (requiredFrom n f ts from m)
-  requiredFrom-order from zero = Pairwise·nil
-  requiredFrom-order from (suc m) =
-      pairwise-append before-prop .1 (
-        Pairwise·map {S = Before} before-prop (requiredAt n f ts from) (λ x y l. (omega arith, λ e. l)) (labels-order n f (kindAt f ts from) (start ts from) (end ts from)),
-        requiredFrom-order (suc from) m,
-        λ r t s u. ∥∥₁-elim t (before-prop r s) (λ d. ∥∥₁-elim u (before-prop r s) (λ e. later r s d e)),
-      )
-    where
-      later : (r s : Required) → List·Memᴰ r (requiredOf n f ts from) → List·Memᴰ s (requiredFrom n f ts (suc from) m) → Before r s
-      later r s d e =
-          let w = Memᴰ·of-map (requiredAt n f ts from) (labelsAt n f ts from) d in
-          let v = requiredFrom-e n f ts (suc from) m e in
-          let i : from ≡ r .transition = ap (λ (q : Required). q .transition) (w .2) in
-          let j : v .0 ≡ s .transition = ap (λ (q : Required). q .transition) (v .5) in
-          (omega (arith, v .2), λ c. absurd (omega (arith, v .2)))
-
-  -- The required cubes stand in order of transition, then of label, the single points after all others.
-  pub required-order : Pairwise Before (required n f ts)
-  required-order =
-      pairwise-append before-prop .1 (
-        requiredFrom-order 0 (count ts),
-        Pairwise·map {S = Before} before-prop (pointAt n ts) (λ x y l. (omega arith, λ e. l)) (those-order (unvisited n f ts) 0 (2 ^ n)),
-        λ r t s u. ∥∥₁-elim t (before-prop r s) (λ d. ∥∥₁-elim u (before-prop r s) (λ e. later r s d e)),
-      )
-    where
-      later : (r s : Required) → List·Memᴰ r (ofTransitions n f ts) → List·Memᴰ s (ofPoints n f ts) → Before r s
-      later r s d e =
-          let (k, x, l, m, g) = transition-e n f ts d in
-          let (y, b, t, h) = point-e n f ts e in
-          let i : k ≡ r .transition = ap (λ (q : Required). q .transition) g in
-          let j : count ts ≡ s .transition = ap (λ (q : Required). q .transition) h in
-          (omega arith, λ c. absurd (omega arith))

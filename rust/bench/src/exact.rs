@@ -7,16 +7,21 @@ type Set = u128;
 
 /// The least number of dhf-primes that hold all required cubes, given that `enough` do.
 pub fn fewest(problem: &Problem, enough: usize) -> usize {
-    let primes = fast::primes_over(problem.n, &problem.table, &problem.transitions);
-    let primes: Vec<Set> = primes
-        .expect("an accepted problem")
-        .iter()
-        .map(|inside| inside.iter().fold(0, |set, &k| set | 1 << k))
-        .collect();
+    let primes = primes_of(problem);
     let all = primes.iter().fold(0, |all, p| all | p);
     let mut best = enough;
     search(&primes, all, 0, &mut best);
     best
+}
+
+/// For each dhf-prime the required cubes inside it.
+fn primes_of(problem: &Problem) -> Vec<Set> {
+    let primes = fast::primes_over(problem.n, &problem.table, &problem.transitions);
+    primes
+        .expect("an accepted problem")
+        .iter()
+        .map(|inside| inside.iter().fold(0, |set, &k| set | 1 << k))
+        .collect()
 }
 
 fn places(set: Set) -> impl Iterator<Item = usize> {
@@ -66,4 +71,49 @@ fn apart(primes: &[Set], left: Set) -> usize {
         count += 1;
     }
     count
+}
+
+#[cfg(test)]
+mod tests {
+    use super::*;
+    use problems::{accepted, Rng, Shape};
+
+    /// By trying every set of primes.
+    fn fewest_of_all(primes: &[Set], all: Set) -> usize {
+        let sets = 0u32..1 << primes.len();
+        let held = |set: u32| {
+            let chosen = (0..primes.len()).filter(|k| set >> k & 1 == 1);
+            chosen.fold(0, |held, k| held | primes[k])
+        };
+        let covers = sets.filter(|&set| held(set) == all);
+        covers.map(u32::count_ones).min().expect("a cover") as usize
+    }
+
+    #[test]
+    fn every_set_agrees() {
+        let mut rng = Rng::new(1);
+        let shape = Shape {
+            n: 4,
+            transitions: 3,
+            widest: 3,
+            corners: 3,
+            dont_cares: 20,
+            zeros: 40,
+        };
+        let mut tried = 0;
+        while tried < 100 {
+            let problem = accepted(&mut rng, &shape);
+            let (n, table, transitions) = (problem.n, &problem.table, &problem.transitions);
+            let mut cover = vec![0; n * quiet::MOST_REQUIRED];
+            let Ok(enough) = fast::minimise(n, table, transitions, &mut cover) else {
+                continue;
+            };
+            let primes = primes_of(&problem);
+            if primes.len() <= 14 {
+                let all = primes.iter().fold(0, |all, p| all | p);
+                assert_eq!(fewest(&problem, enough), fewest_of_all(&primes, all));
+                tried += 1;
+            }
+        }
+    }
 }
