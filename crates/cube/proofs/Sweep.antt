@@ -3,9 +3,16 @@ use mathlib.Core.Path.{_≡_, refl, _∙_}
 use mathlib.Core.List.{List}
 use Prim.Native.Nat.{ℕ, _+_, _≤_, _<_}
 use native.Mathlib.Omega.{arith}
-use native.Mathlib.Decide.{ℕ-discrete}
-use lib.ListN.{length, getD, set, length-set}
+use native.Mathlib.Decide.{ℕ-discrete, decLt}
+use lib.ListN.{length, getD, set, replicate, length-set, length-replicate, getD-replicate, List·getD-eq-default}
 use lib.Seq.{getD-set-same, getD-set-other}
+
+-- A list that was made of one value has it at every place, and past its end by default.
+pub all-same : {A : Type 0} (size i : ℕ) (a : A) → getD (replicate size a) i a ≡ a
+all-same size i a = elim (decLt i size) [
+  | yes l ↦ getD-replicate size i a a l
+  | no l ↦ List·getD-eq-default (replicate size a) a (omega (arith, l, length-replicate size a))
+]
 
 -- The first i entries are changed, the others are as they were.
 pub record Sweep {A : Type 0} (change : ℕ → A → A) (d : A) (old new : List A) (i : ℕ) : Type 0 where

@@ -6,13 +6,14 @@ use Prim.Native.Nat.{ℕ, _*_, _≤_, _<_}
 use native.Mathlib.Decide.{decLt}
 use native.Mathlib.Omega.{arith}
 use lib.Dec.{T, ltb, ltb→lt, lt→ltb}
-use lib.ListN.{length, getD, replicate, List·getD-eq-default, length-replicate, getD-replicate}
+use lib.ListN.{length, getD, replicate}
 use Rattle.hazard.specs.Cube.{inside}
 use Rattle.hazard.proofs.Test.{T-and, is, isnt}
 use Rattle.cube.specs.Mask.{cubeOf}
 use Rattle.cube.specs.Entry.{cubeIn}
 use Rattle.cube.specs.PointSet.{inSet}
 use Rattle.cube.specs.declared.mask.Cube as masks
+use Rattle.cube.proofs.Sweep.{all-same}
 use Rattle.blocks.specs.Blocks.{allowedTo}
 use Rattle.rows.specs.Sets.{Split}
 use Rattle.flags.specs.Rows.{Inside}
@@ -20,18 +21,12 @@ use Rattle.flags.specs.Flag.{Flagged, Unflagged, Flagging}
 use Rattle.flags.proofs.Placing.{past}
 
 -- At first no flag is set,
-no-flag : (size i : ℕ) → getD (replicate size false) i false ≡ false
-no-flag size i = elim (decLt i size) [
-  | yes l ↦ getD-replicate size i false false l
-  | no l ↦ List·getD-eq-default (replicate size false) false (omega (arith, l, length-replicate size false))
-]
-
 pub flagged-start : (n : ℕ) (required : List ℕ) (size : ℕ) → Flagged n required (replicate size false) []
-flagged-start n required size i l = no-flag size i
+flagged-start n required size i l = all-same size i false
 
 -- and the set holds every required cube.
 pub unflagged-start : (size count : ℕ) (set : List ℕ) → count ≤ 64 * length set → ((k : ℕ) → k < 64 * length set → inSet set k ≡ ltb k count) → Unflagged count (replicate size false) set
-unflagged-start size count set wide h i = row ∙ sym (ap (λ (b : Bool). ltb i count && not b) (no-flag size i) ∙ all (ltb i count))
+unflagged-start size count set wide h i = row ∙ sym (ap (λ (b : Bool). ltb i count && not b) (all-same size i false) ∙ all (ltb i count))
   where
     all : (b : Bool) → (b && true) ≡ b
     all true = refl

@@ -1,8 +1,7 @@
 -- Only the transitions of the list are read: what `start` and `end` answer past them changes no set.
 use mathlib.Core.Path.{_≡_, refl, ap, ap₂, _∙_, fun-ext}
-use mathlib.Core.Bool.{Bool, true, false, not, _&&_}
+use mathlib.Core.Bool.{true, false, not, _&&_}
 use mathlib.Core.List.{List, [], _∷_, _++_, map}
-use mathlib.Core.Option.{Option, some}
 use Prim.Native.Nat.{ℕ, zero, suc, _+_, _*_, _%_, _≤_, _<_}
 use native.Mathlib.Omega.{arith}
 use lib.Dec.{eqb}
@@ -14,6 +13,7 @@ use Rattle.hazard.specs.Sets.{Required, Privileged, labels, startPoint, 
 use Rattle.hazard.specs.Cover.{Network}
 use Rattle.hazard.specs.Verdict.{faultA, faultC, faultB, firstFault, fault}
 use Rattle.hazard.specs.Minimal.{blockCheck, blocking}
+use Rattle.hazard.proofs.Search.{first-same}
 
 -- Two lists with the same transitions.
 pub record SameTransitions (ts us : List ℕ) : Type 0 where
@@ -30,11 +30,6 @@ one-more ts x e =
       starts = λ k h. List·getD-append ts (x ∷ []) 0 (2 * k) (omega arith);
       ends = λ k h. List·getD-append ts (x ∷ []) 0 (2 * k + 1) (omega arith);
     }
-
-first-same : (p q : ℕ → Bool) (from size : ℕ) → ((x : ℕ) → x < from + size → p x ≡ q x) → first p from size ≡ first q from size
-first-same p q from zero h = refl
-first-same p q from (suc size) h =
-    ap₂ {C = Option ℕ} (λ (b : Bool) (o : Option ℕ). elim b [ true ↦ some from | false ↦ o ]) (h from (omega arith)) (first-same p q (suc from) size (λ x l. h x (omega arith)))
 
 module _ (n : ℕ) (f ts us : List ℕ) (same : SameTransitions ts us) where
   -- What is made of the two ends of transition k.
@@ -57,7 +52,7 @@ module _ (n : ℕ) (f ts us : List ℕ) (same : SameTransitions ts us) where
 
   visited-same : (x : ℕ) → visited n ts x ≡ visited n us x
   visited-same x =
-      ap found (first-same (λ k. visits n ts k x) (λ k. visits n us k x) 0 (count ts) (λ k l. of-ends (λ a b. has (span n a b) x) k (omega arith)))
+      ap found (first-same (λ k. visits n ts k x) (λ k. visits n us k x) 0 (count ts) (λ k b l. of-ends (λ a b. has (span n a b) x) k (omega arith)))
       ∙ ap (λ m. found (first (λ k. visits n us k x) 0 m)) (same .many)
 
   points-same : ofPoints n f ts ≡ ofPoints n f us

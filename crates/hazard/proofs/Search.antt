@@ -1,10 +1,11 @@
 -- What the searches find.
-use mathlib.Core.Path.{_≡_, refl, sym, ap, _∙_, subst, subst⁻¹}
+use mathlib.Core.Path.{_≡_, refl, sym, ap, ap₂, _∙_, subst, subst⁻¹}
 use mathlib.Core.Logic.{_↔_, inl, inr, ∥∥₁-elim}
-use mathlib.Core.Bool.{Bool, true, false}
+use mathlib.Core.Bool.{Bool, true, false, _||_}
 use mathlib.Core.List.{List, [], _∷_, _++_, map, List·Memᴰ, List·Memᴰ·head, List·Memᴰ·tail, List·Memᴰ·not-nil, List·Memᴰ·cases-cons, Memᴰ·append-right, Pairwise, Pairwise·nil, Pairwise·cons}
 use mathlib.Core.Option.{Option, none, some}
 use Prim.Native.Nat.{ℕ, zero, suc, _+_, _≤_, _<_}
+use native.Mathlib.Nat.{add-zero}
 use native.Mathlib.Omega.{arith}
 use native.Mathlib.Bridge.{le-prop}
 use native.Mathlib.Decide.{ℕ-discrete}
@@ -71,6 +72,26 @@ any-i test size i l t = go (first test 0 size) (first-is test 0 size)
     go : (o : Option ℕ) → First test 0 size o → T (found o)
     go none (nowhere h) = h i (omega arith) (omega arith) t
     go (some x) v = tt
+
+-- Tests that agree find the same.
+pub first-same : (p q : ℕ → Bool) (from size : ℕ) → ((x : ℕ) → from ≤ x → x < from + size → p x ≡ q x) → first p from size ≡ first q from size
+first-same p q from zero h = refl
+first-same p q from (suc size) h =
+    ap₂ {C = Option ℕ} (λ (b : Bool) (o : Option ℕ). elim b [ true ↦ some from | false ↦ o ]) (h from (omega arith) (omega arith)) (first-same p q (suc from) size (λ x a l. h x (omega arith) (omega arith)))
+
+-- Something is found among one number more if it is found among those before, or there.
+pub any-more : (test : ℕ → Bool) (from size : ℕ) → found (first test from (suc size)) ≡ (found (first test from size) || test (from + size))
+any-more test from zero = rw (add-zero from) (go (test from))
+  where
+    go : (b : Bool) → found {A = ℕ} (elim b [ true ↦ some from | false ↦ none ]) ≡ b
+    go true = refl
+    go false = refl
+any-more test from (suc size) = let e : from + suc size ≡ suc from + size = omega arith in rw e (go (test from) (any-more test (suc from) size))
+  where
+    go : (b : Bool) → found (first test (suc from) (suc size)) ≡ (found (first test (suc from) size) || test (suc from + size))
+        → found {A = ℕ} (elim b [ true ↦ some from | false ↦ first test (suc from) (suc size) ]) ≡ (found {A = ℕ} (elim b [ true ↦ some from | false ↦ first test (suc from) size ]) || test (suc from + size))
+    go true h = refl
+    go false h = h
 
 -- The entries of an ascending list of numbers.
 pub those-e : (test : ℕ → Bool) (from size : ℕ) {i : ℕ} → List·Memᴰ i (those test from size) → (from ≤ i) × (i < from + size) × T (test i)

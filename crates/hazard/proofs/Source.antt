@@ -15,7 +15,7 @@ use Rattle.hazard.specs.Transition.{value, off, start, end, count, Kind,
 use Rattle.hazard.specs.Sets.{Required, Privileged, maximalLabel, labels, startPoint, dynamic, kindAt, unvisited, required, privileged}
 use Rattle.hazard.specs.Cover.{Network, WellFormed, HazardFreeCover}
 use Rattle.hazard.specs.Refusal.{Accepted}
-use Rattle.hazard.specs.Source.{StaticHazard, DynamicHazard, OneOn, MaximalOn, SourceLabel, SourceRequired, stays, falls, rises, UnvisitedOne, RequiredCube, ofTransition, ofPoint, SourcePrivileged, SourceOff, Trivial, SourceCover}
+use Rattle.hazard.specs.Source.{StaticHazard, DynamicHazard, OneOn, MaximalOn, SourceLabel, SourceRequired, stays, falls, rises, RequiredCube, ofTransition, ofPoint, SourcePrivileged, SourceOff, Trivial, SourceCover}
 use Rattle.hazard.proofs.Test.{tests, known, T-and, T-no, eqb-of}
 use Rattle.hazard.proofs.Search.{first-none, none-first, those-e, those-i}
 use Rattle.hazard.proofs.Cube.{digits→, →has, meets→, span-digits, span-left, span-right}

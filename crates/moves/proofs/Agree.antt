@@ -11,7 +11,7 @@ use Rattle.hazard.specs.Cube.{flip}
 use Rattle.hazard.specs.Transition.{value, movable, further}
 use Rattle.hazard.proofs.Point.{flip-lt}
 use Rattle.cube.specs.PointSet.{inSet}
-use Rattle.points.proofs.Agree.{first-same}
+use Rattle.hazard.proofs.Search.{first-same}
 use Rattle.context.specs.Planes.{Plane}
 use Rattle.context.proofs.PlaneWord.{plane-in}
 use Rattle.moves.specs.Further.{movesInto, furtherIn}

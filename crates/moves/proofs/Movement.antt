@@ -15,7 +15,7 @@ use borrow.Author.Tests.{eq-eqb, ne-eqb}
 use Rattle.hazard.specs.Search.{found, first}
 use Rattle.hazard.specs.Cube.{bit, flip}
 use Rattle.hazard.proofs.Test.{bool-ext, or-l, or-r, or-e, so-not}
-use Rattle.hazard.proofs.Search.{any-e, any-i, none-first}
+use Rattle.hazard.proofs.Search.{any-e, any-i, first-same, none-first}
 use Rattle.hazard.proofs.Point.{flip-down, flip-same, flip-other}
 use Rattle.cube.proofs.Bits.{bit-case2, or-last, one-shl}
 use Rattle.cube.proofs.Points.{flip-xor}
@@ -24,7 +24,6 @@ use Rattle.cube.proofs.WordMask.{no-bit, xor-bits}
 use Rattle.points.specs.PointWord.{WordOf}
 use Rattle.moves.specs.Further.{movesFrom, movesInto, furtherIn}
 use Rattle.context.proofs.PlaneWord.{bit-past}
-use Rattle.points.proofs.Agree.{first-same}
 
 or-bits : (a b i : ℕ) → bit (bitOr a b) i ≡ bitOr (bit a i) (bit b i)
 or-bits a b i = ap (λ (y : ℕ). y % 2) (or-shr a b i) ∙ or-last (a / 2 ^ i) (b / 2 ^ i)

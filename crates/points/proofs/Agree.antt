@@ -2,7 +2,7 @@
 use mathlib.Core.Path.{_≡_, refl, sym, ap, ap₂, _∙_}
 use mathlib.Core.Bool.{Bool, true, false, _&&_}
 use mathlib.Core.Option.{Option, none, some}
-use Prim.Native.Nat.{ℕ, zero, suc, _+_, _^_, _≤_, _<_}
+use Prim.Native.Nat.{ℕ, _^_, _≤_, _<_}
 use native.Mathlib.Omega.{arith}
 use native.Mathlib.Decide.{decLt}
 use lib.Pow.{pow-mono}
@@ -13,19 +13,7 @@ use Rattle.hazard.proofs.Search.{First, nowhere, lowest, first-is}
 use Rattle.cube.proofs.ByWords.{first-at, first-not}
 use Rattle.points.specs.declared.walk.Walk.{Walk}
 use Rattle.points.specs.Walk.{visits, lowestOn, Walks}
-use Rattle.points.proofs.Masked.{true-false, and-false}
-
--- Tests that agree find the same.
-pub first-same : (s t : ℕ → Bool) (from size : ℕ) → ((x : ℕ) → from ≤ x → x < from + size → s x ≡ t x) → first s from size ≡ first t from size
-first-same s t from zero h = refl
-first-same s t from (suc size) h = go (s from) (t from) (h from (omega arith) (omega arith)) (first-same s t (suc from) size (λ x a b. h x (omega arith) (omega arith)))
-  where
-    go : (b c : Bool) → b ≡ c → first s (suc from) size ≡ first t (suc from) size
-        → _≡_ {A = Option ℕ} (elim b [ true ↦ some from | false ↦ first s (suc from) size ]) (elim c [ true ↦ some from | false ↦ first t (suc from) size ])
-    go true true e ih = refl
-    go true false e ih = absurd (true-false e)
-    go false true e ih = absurd (true-false (sym e))
-    go false false e ih = ih
+use Rattle.points.proofs.Masked.{and-false}
 
 -- Two tests agree on the numbers below size, and no other number of ten bits passes the first.
 pub record Agrees (test like : ℕ → Bool) (size : ℕ) : Type 0 where

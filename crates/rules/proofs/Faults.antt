@@ -13,7 +13,7 @@ use Rattle.hazard.specs.Cube.{has, span}
 use Rattle.hazard.specs.Transition.{Kind, rise, fall, value, functionHazard, undefinedAt}
 use Rattle.hazard.specs.Implicant.{lowestZero}
 use Rattle.cube.specs.PointSet.{inSet}
-use Rattle.points.proofs.Agree.{first-same}
+use Rattle.hazard.proofs.Search.{first-same}
 use Rattle.moves.specs.Turn.{turns}
 use Rattle.moves.proofs.Agree.{turns-agree}
 use Rattle.context.specs.Places.{zerosIn, onesIn}

@@ -2,45 +2,31 @@
 use mathlib.Core.Path.{_≡_, refl, sym, ap, ap₂, _∙_}
 use mathlib.Core.Bool.{Bool, true, false, not, _||_, _&&_, and-true, or-false}
 use mathlib.Core.List.{List, map}
-use mathlib.Core.Option.{none, some}
-use Prim.Native.Nat.{ℕ, zero, suc, _+_, _*_, _/_, _%_, _^_, _≤_, _<_}
-use native.Mathlib.Nat.{add-zero, zero-add}
+use Prim.Native.Nat.{ℕ, _+_, _/_, _%_, _^_, _<_}
+use native.Mathlib.Nat.{zero-add}
+use native.Mathlib.Numerals.{add-one}
 use native.Mathlib.Omega.{arith}
 use lib.Bits.{bitAnd, bitXor}
 use lib.Dec.{eqb, ltb}
 use lib.ListN.{length, getD, replicate}
 use lib.Pow.{pow-mono}
-use native.Mathlib.Numerals.{add-one}
 use borrow.Author.Tests.{lt-ltb}
-use Rattle.hazard.specs.Search.{found, first, those}
+use Rattle.hazard.specs.Search.{found, first}
 use Rattle.hazard.specs.Cube as digits
 use Rattle.hazard.specs.Cube.{bit, has, span}
 use Rattle.hazard.specs.Transition.{start, end, count, visits, visited}
 use Rattle.hazard.specs.Sets.{Required, unvisited, singlePoints, ofPoints}
+use Rattle.hazard.proofs.Search.{any-more}
 use Rattle.cube.specs.PointSet.{inSet}
 use Rattle.cube.proofs.WordMask.{no-bit, less-test}
+use Rattle.cube.proofs.Sweep.{all-same}
 use Rattle.points.specs.Union.{Joined}
 use Rattle.points.proofs.Members.{those-same}
 use Rattle.context.specs.Places.{onesIn}
-use Rattle.context.specs.Planes.{Plane}
 use Rattle.context.specs.Context.{tableIn, Planes}
 use Rattle.context.proofs.Values.{plane-ones, table-length}
 use Rattle.context.proofs.PlaneWord.{plane-in}
 use Rattle.sets.specs.Unvisited.{Unvisited}
-
--- Something is found among one number more.
-any-more : (test : ℕ → Bool) (from size : ℕ) → found (first test from (suc size)) ≡ (found (first test from size) || test (from + size))
-any-more test from zero = rw (add-zero from) (go (test from))
-  where
-    go : (b : Bool) → found {A = ℕ} (elim b [ true ↦ some from | false ↦ none ]) ≡ b
-    go true = refl
-    go false = refl
-any-more test from (suc size) = let e : from + suc size ≡ suc from + size = omega arith in rw e (go (test from) (any-more test (suc from) size))
-  where
-    go : (b : Bool) → found (first test (suc from) (suc size)) ≡ (found (first test (suc from) size) || test (suc from + size))
-        → found {A = ℕ} (elim b [ true ↦ some from | false ↦ first test (suc from) (suc size) ]) ≡ (found {A = ℕ} (elim b [ true ↦ some from | false ↦ first test (suc from) size ]) || test (suc from + size))
-    go true h = refl
-    go false h = h
 
 -- The first t transitions visit the point.
 abbrev pub visitedBy : ℕ → List ℕ → ℕ → ℕ → Bool
@@ -75,13 +61,8 @@ visiting-more n ts t {before} {set} {after} h {c} e j =
     regroup false false h l = refl
 
 -- An empty set has no point.
-zero-word : (k i : ℕ) → _≡_ {A = ℕ} (getD (replicate k 0) i 0) 0
-zero-word zero i = refl
-zero-word (suc k) zero = refl
-zero-word (suc k) (suc i) = zero-word k i
-
 pub none-in : (k x : ℕ) → inSet (replicate k 0) x ≡ false
-none-in k x = ap (λ (y : ℕ). eqb y 1) (no-bit (getD (replicate k 0) (x / 64) 0) (x % 64) (zero-word k (x / 64)))
+none-in k x = ap (λ (y : ℕ). eqb y 1) (no-bit (getD (replicate k 0) (x / 64) 0) (x % 64) (all-same k (x / 64) 0))
 
 -- What a set leaves of the ones in word w.
 abbrev pub leftWord : List ℕ → List ℕ → ℕ → ℕ

@@ -1,7 +1,6 @@
 use mathlib.Core.Path.{_≡_, _∙_, ap₂}
 use Prim.Native.Nat.{_+_, _-_, _*_, _≤_}
 use native.Mathlib.Omega.{arith}
-use lib.ListN.{length}
 use Rattle.hazard.specs.Cube.{span}
 use Rattle.hazard.specs.Transition as spec
 use Rattle.sets.proofs.Leaving.{Visiting, visiting-start, visiting-more}
