@@ -82,8 +82,9 @@ pub record Trivial (n : ℕ) (f : List ℕ) (q : Cube) (s : ℕ) : Type 0 where
   pub one : value f s ≡ 1
   pub rest : (x : ℕ) → x < 2 ^ n → T (has q x) → x ≢ s → value f x ≡ 0
 
--- Theorem 2.10 as the source words it, with the single points among the required cubes: (a) no product contains a point of the OFF-set; (b) each required cube lies in a single product;
--- (c) a product that shares a point with a privileged cube, if that is not trivial, contains its start point.
+-- Theorem 2.10 as the source words it, with the single points among the required cubes: (a) no product contains a point of the OFF-set; (b) each
+-- required cube lies in a single product; (c) a product that shares a point with a privileged cube, if that is not trivial, contains its start
+-- point.
 pub record SourceCover (n : ℕ) (f ts : List ℕ) (net : Network) : Type 0 where
   pub a : (p : Cube) → List·Memᴰ p net → (x : ℕ) → SourceOff n f x → ¬ T (has p x)
   pub b : (r : Required) → RequiredCube n f ts r → (p : Cube) × List·Memᴰ p net × T (inside (r .cube) p)
