@@ -15,7 +15,7 @@ use Rattle.hazard.specs.Transition.{off}
 use Rattle.hazard.specs.Sets.{Required, required, privileged}
 use Rattle.hazard.specs.Implicant.{DhfPrime}
 use Rattle.hazard.specs.Cover.{Network, productAt, WellFormed, covered, without, Own, Irredundant, HazardFreeCover}
-use Rattle.hazard.specs.HazardFree.{HazardFree}
+use Rattle.hazard.specs.HazardFree.{HazardFree, VisitedHazardFree}
 use Rattle.hazard.specs.Refusal.{Accepted}
 use Rattle.hazard.specs.Sequence.{ascending}
 use Rattle.hazard.specs.Minimal.{blockCheck, blocking, Minimal}
@@ -27,7 +27,7 @@ use Rattle.hazard.proofs.Network.{without-member, covered-by}
 use Rattle.hazard.proofs.Implicant.{prime-is}
 use Rattle.hazard.proofs.Existence.{dhf-cover, cover-exists}
 use Rattle.hazard.proofs.Single.{cover-transitions}
-use Rattle.hazard.proofs.Theorem.{VisitedHazardFree, hazard-free-visited, visited→cover, cover-hazard-free}
+use Rattle.hazard.proofs.Theorem.{hazard-free-visited, visited→cover, cover-hazard-free}
 use Rattle.hazard.proofs.Blocking.{block-none}
 
 -- What the network covers and its rest does not lies in the product left out.

@@ -12,7 +12,7 @@ use Rattle.hazard.specs.Sets.{Required, Privileged, kindAt, startAt, ofT
 use Rattle.hazard.specs.Implicant.{illegal}
 use Rattle.hazard.specs.Cover.{Network, productAt, WellFormed, gives, covered, Cover, HazardFreeCover}
 use Rattle.hazard.specs.Run.{Allowed}
-use Rattle.hazard.specs.HazardFree.{HazardFree}
+use Rattle.hazard.specs.HazardFree.{HazardFree, VisitedHazardFree}
 use Rattle.hazard.specs.Refusal.{Accepted}
 use Rattle.hazard.proofs.Test.{tests, is, isnt, so, so-not, known, eqb-of}
 use Rattle.hazard.proofs.Cube.{has→, →has, inside→, inside-has, span-digits}
@@ -22,14 +22,9 @@ use Rattle.hazard.proofs.Network.{entry-at, at-places, Products, well-f
 use Rattle.hazard.proofs.Sets.{requiredAt, pointAt, privilegedAt, transition-i, transition-e, point-e, required-transition, required-cases, privileged-i, privileged-e}
 use Rattle.hazard.proofs.One.{one-required}
 use Rattle.hazard.proofs.Moment.{Runs}
-use Rattle.hazard.proofs.Transition.{Anchored, CoverAt, Ones, runs-at, cover-at}
+use Rattle.hazard.proofs.Transition.{Anchored, CoverAt, runs-at, cover-at}
 
--- Hazard-free, but for the 1s that no transition visits: nothing is asked there.
-pub record VisitedHazardFree (n : ℕ) (f ts : List ℕ) (net : Network) : Type 0 where
-  pub zeros : (x : ℕ) → x < 2 ^ n → value f x ≡ 0 → gives net x ≡ false
-  pub ones : (k : ℕ) → k < count ts → Ones n f net (start ts k) (end ts k)
-  pub runs : (k : ℕ) → k < count ts → Runs (start ts k) (end ts k) net (Allowed (kindAt f ts k))
-
+-- A hazard-free network is so at the visited 1s.
 pub hazard-free-visited : {n : ℕ} {f ts : List ℕ} {net : Network} → HazardFree n f ts net → VisitedHazardFree n f ts net
 hazard-free-visited h = record { zeros = h .zeros; ones = λ k l x m t. h .ones x m; runs = h .runs }
 

@@ -159,7 +159,7 @@ module _ (n : ℕ) (f : List ℕ) (net : Network) (a b : ℕ) where
     pub legal : T (dynamic k) → Anchored n a b net (startPoint k a b)
 
   -- The network gives 1 at the 1s of [A,B].
-  abbrev pub Ones : Type 0
+  abbrev Ones : Type 0
   Ones = (x : ℕ) → x < 2 ^ n → T (has (span n a b) x) → value f x ≡ 1 → gives net x ≡ true
 
   -- A single product contains S and the label, for each label, if the network gives 1 at the 1s and every product that has a point of [A,B] contains S.
