@@ -114,7 +114,8 @@ fn names_blocked(p: Instance, r: Refusal) -> bool {
     )
 }
 
-// Refusal 10: no set of products is hazard-free, even if nothing is asked at the 1s that no transition visits, and the fields name the first cube that blocks.
+// Refusal 10: no set of products is hazard-free, even if nothing is asked at the 1s that no transition visits, and the fields name the
+// first cube that blocks.
 fn none(p: Instance, r: Refusal, counts: &mut [u64; LEN]) -> Answer {
     add(counts, NONE);
     add(counts, count_of_steps(r.steps));

@@ -14,13 +14,18 @@ pub fn fewest(problem: &Problem, enough: usize) -> usize {
     best
 }
 
-/// For each dhf-prime the required cubes inside it.
+/// For each dhf-prime the required cubes inside it. There are at most 128 of them.
 fn primes_of(problem: &Problem) -> Vec<Set> {
     let primes = fast::primes_over(problem.n, &problem.table, &problem.transitions);
+    let bit = |k: usize| {
+        (1 as Set)
+            .checked_shl(k as u32)
+            .expect("few required cubes")
+    };
     primes
         .expect("an accepted problem")
         .iter()
-        .map(|inside| inside.iter().fold(0, |set, &k| set | 1 << k))
+        .map(|inside| inside.iter().fold(0, |set, &k| set | bit(k)))
         .collect()
 }
 
