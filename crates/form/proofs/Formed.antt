@@ -10,7 +10,7 @@ use lib.Pow.{pow-pos}
 use Rattle.hazard.specs.Search.{firstOf}
 use Rattle.hazard.specs.Refusal.{Refusal}
 use Rattle.hazard.proofs.Search.{firstOf-none, entries}
-use Rattle.hazard.proofs.Rules.{inputs-few, length-whole, bytes-few, list-few, ends-within}
+use Rattle.hazard.proofs.Rules.{inputs-few, length-whole, bytes-few, list-few, ends-within, bursts-narrow}
 use Rattle.form.specs.Formed.{formChecks, Formed}
 
 module _ (n : ℕ) (f ts : List ℕ) where
@@ -20,7 +20,7 @@ module _ (n : ℕ) (f ts : List ℕ) where
       record {
         whole = length-whole n f (passes (search entries depth 20));
         bytes = λ x l. bytes-few f (passes (search entries depth 20)) x;
-        listed = record { small = inputs-few n (passes (search entries depth 20)) .1; few = list .2; within = within (list .1) };
+        listed = record { small = inputs-few n (passes (search entries depth 20)) .1; few = list .2; within = within (list .1); narrow = bursts-narrow n ts (passes (search entries depth 20)) };
       }
     where
       passes : {o : Option Refusal} → List·Memᴰ o (formChecks n f ts) → o ≡ none

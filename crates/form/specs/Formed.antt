@@ -1,4 +1,4 @@
--- Checks 1 to 5, and what they leave of a problem.
+-- Checks 1 to 5 and 14, and what they leave of a problem.
 use mathlib.Core.Path.{_≡_}
 use mathlib.Core.List.{List, [], _∷_, _++_}
 use mathlib.Core.Option.{Option}

@@ -1,4 +1,4 @@
-// Checks 1 to 5, one run after another.
+// Checks 1 to 5 and 14, one run after another.
 ghost use mathlib.Core.Path.{_≡_};
 ghost use Rattle.hazard.specs.Search.{firstOf};
 ghost use Rattle.refusal.specs.Answer.{checkedOf};

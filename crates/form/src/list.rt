@@ -1,4 +1,4 @@
-// Checks 4 and 5: the list of transitions by itself.
+// Checks 4, 5 and 14: the list of transitions by itself.
 ghost use mathlib.Core.Path.{_≡_};
 ghost use mathlib.Core.Bool.{_||_};
 ghost use Prim.Native.Nat.{_≤_, _^_};
@@ -7,6 +7,7 @@ ghost use Rattle.hazard.specs.Search.{firstOf};
 ghost use Rattle.hazard.specs.Transition.{count};
 ghost use Rattle.hazard.specs.Refusal.{listCheck, endsCheck, listChecks};
 ghost use Rattle.refusal.specs.Answer.{checkedOf};
+use crate::burst::check_bursts;
 use kinds::transition::end_of;
 use kinds::transition::start_of;
 use refusal::checked::Checked;
@@ -57,7 +58,7 @@ pub fn check_ends(n: usize, transitions: &[u16]) -> Checked
     Checked::Accepted
 }
 
-// Both.
+// All three.
 pub fn list_checks(n: usize, transitions: &[u16]) -> Checked
     requires { ⌜ n ≤ 10 ⌝ }
     ensures { λ r. ⌜ checkedOf r ≡ firstOf (listChecks n (now (transitions .entry))) ⌝ }
@@ -66,5 +67,9 @@ pub fn list_checks(n: usize, transitions: &[u16]) -> Checked
     let Checked::Accepted = first else {
         return first;
     };
-    check_ends(n, transitions)
+    let ends = check_ends(n, transitions);
+    let Checked::Accepted = ends else {
+        return ends;
+    };
+    check_bursts(n, transitions)
 }

@@ -9,18 +9,19 @@ use native.Mathlib.Omega.{arith}
 use lib.Dec.{eqb, leb, ltb}
 use lib.ListN.{length}
 use lib.Pow.{pow-mono}
-use Rattle.hazard.specs.Limits.{mostRequired, mostProducts}
+use Rattle.hazard.specs.Limits.{mostMoving, mostRequired, mostProducts}
 use Rattle.hazard.specs.Search.{first, firstPlace, firstOf}
-use Rattle.hazard.specs.Cube.{has, span, isProduct}
+use Rattle.hazard.specs.Cube.{has, span, distance, isProduct}
 use Rattle.hazard.specs.Transition.{value, off, start, end, count, Kind, low, rise, fall, high, kind, functionHazard}
 use Rattle.hazard.specs.Sets.{Required, Privileged, labels, maximalLabel, kindAt, required, privileged}
 use Rattle.hazard.specs.Growth.{Growth, Legal, Blocked, steps, grow}
 use Rattle.hazard.specs.Cover.{Network, productAt}
-use Rattle.hazard.specs.Refusal.{Refusal, refusal, productRefusal, refuseIf, inputsCheck, lengthCheck, bytesCheck, listCheck, endsCheck, definedCheck, rulesCheck, manyCheck, inputChecks, Accepted}
+use Rattle.hazard.specs.Refusal.{Refusal, refusal, productRefusal, refuseIf, inputsCheck, lengthCheck, bytesCheck, listCheck, endsCheck, burstsCheck, definedCheck, rulesCheck, manyCheck, inputChecks, Accepted}
 use Rattle.hazard.specs.Verdict.{products, productsCheck, digitsCheck, networkChecks, verifierChecks, Verdict, refused, fault, verdict, Fields, fieldsOf}
 use Rattle.hazard.specs.Minimal.{blockedBy, blockCheck, roomCheck, blocking, minimiserChecks, Minimal}
 use Rattle.hazard.proofs.Search.{none-some, first-some, place-some, those-e, firstOf-none, entries, firstOf-append, firstOf-some}
-use Rattle.hazard.proofs.Rules.{inputs-few, length-whole, list-few, few-inputs, list-length, points, required-few}
+use Rattle.hazard.proofs.Rules.{inputs-few, length-whole, list-few, few-inputs, list-length, points}
+use Rattle.hazard.proofs.Few.{required-few}
 use Rattle.hazard.proofs.Sets.{transition-e, point-e, required-cases, required-digits, privileged-e, privileged-wide}
 use Rattle.hazard.proofs.Growth.{Ends, blocked, grow-steps, grow-ends}
 use Rattle.hazard.proofs.Verdict.{products-length, products-fit, Named, none-named, zero-named, illegal-named, cube-named, fault-named, checked-accepted}
@@ -154,6 +155,10 @@ module _ {most : ℕ} (p : 1 ≤ most) (n : ℕ) where
   ends-bounds ts few = search-bounds (λ k. refusal 5 k 0) (first (λ k. leb (2 ^ n) (start ts k) || leb (2 ^ n) (end ts k)) 0 (count ts)) (λ k s.
       named p (omega arith) (omega arith) (omega (arith, first-some (λ k. leb (2 ^ n) (start ts k) || leb (2 ^ n) (end ts k)) 0 (count ts) s .1)) (omega arith))
 
+  bursts-bounds : (ts : List ℕ) → count ts ≤ 64 → Finds most (burstsCheck n ts)
+  bursts-bounds ts few = search-bounds _ (first (λ k. ltb mostMoving (distance n (start ts k) (end ts k))) 0 (count ts)) (λ k s.
+      named p (omega arith) (omega arith) (omega (arith, first-some (λ k. ltb mostMoving (distance n (start ts k) (end ts k))) 0 (count ts) s .1)) (omega arith))
+
   defined-bounds : (f ts : List ℕ) → n ≤ 10 → count ts ≤ 64 → Finds most (definedCheck n f ts)
   defined-bounds f ts small few = place-bounds p few (points-few small) 6 (omega arith) (omega arith) (λ k x. has (span n (start ts k) (end ts k)) x && eqb (value f x) 2)
 
@@ -185,9 +190,10 @@ module _ (n : ℕ) (f ts : List ℕ) where
       next (list-bounds p n ts) (λ c4.
       let few = list-few ts c4 .2 in
       next (ends-bounds p n ts few) (λ c5.
+      next (bursts-bounds p n ts few) (λ c14.
       next (defined-bounds p n f ts small few) (λ c6.
       next (rules-bounds p n f ts small few) (λ c7.
-      next (many-bounds p n f ts) (λ c8. tried))))))))
+      next (many-bounds p n f ts) (λ c8. tried)))))))))
 
   -- A refusal of the minimiser.
   pub minimiser-bounds : (room : ℕ) {q : Refusal} → firstOf (minimiserChecks n f ts room) ≡ some q → Bounded 1 q

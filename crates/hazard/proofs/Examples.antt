@@ -1,11 +1,15 @@
 -- Problems that meet the hypotheses of the theorems.
 use mathlib.Core.Path.{_≡_, refl, sym, subst⁻¹}
-use mathlib.Core.List.{List, [], _∷_, List·Memᴰ·eq-of-singleton}
+use mathlib.Core.Bool.{true, cond}
+use mathlib.Core.List.{List, [], _∷_, map, List·Memᴰ·eq-of-singleton}
 use Prim.Native.Nat.{ℕ}
 use native.Mathlib.Omega.{arith}
-use lib.Dec.{T}
+use lib.Dec.{T, leb}
+use lib.ListN.{length}
+use Rattle.hazard.specs.Search.{those}
+use Rattle.hazard.specs.Cube.{distance}
 use Rattle.hazard.specs.Transition.{off}
-use Rattle.hazard.specs.Sets.{Required, privileged}
+use Rattle.hazard.specs.Sets.{Required, required, privileged}
 use Rattle.hazard.specs.Implicant.{dhfImplicant, StrictlyInside}
 use Rattle.hazard.specs.Growth.{Legal, Blocked, Grown, grow}
 use Rattle.hazard.specs.Cover.{Network, WellFormed}
@@ -106,3 +110,10 @@ tableB = 2 ∷ 2 ∷ 2 ∷ 0 ∷ 0 ∷ 1 ∷ 1 ∷ 1 ∷ 0 ∷ 2 ∷ 2 ∷ 1 ∷
 
 pub blocked-after-two : grow 4 (off tableB) (privileged 4 tableB (13 ∷ 14 ∷ 12 ∷ 7 ∷ 15 ∷ 11 ∷ [])) (1 ∷ 1 ∷ 2 ∷ 1 ∷ []) ≡ Blocked 3 2
 blocked-after-two = refl
+
+-- A fall of five inputs with ten required cubes: the function is 1 where at most two inputs have moved.
+abbrev layers5 : List ℕ
+layers5 = map (λ x. cond (leb (distance 5 0 x) 2) 1 0) (those (λ x. true) 0 32)
+
+pub ten-required : Accepted 5 layers5 (0 ∷ 31 ∷ []) × (length (required 5 layers5 (0 ∷ 31 ∷ [])) ≡ 10)
+ten-required = (refl, refl)

@@ -1,6 +1,7 @@
 -- Tests, searches, cubes and points.
 pub mod Test
 pub mod Search
+pub mod Counting
 pub mod Digit
 pub mod Cube
 pub mod Point
@@ -9,6 +10,7 @@ pub mod Meaning
 pub mod Rules
 pub mod Numbers
 pub mod Sets
+pub mod Few
 pub mod Monotone
 pub mod Source
 pub mod Reading
@@ -34,8 +36,10 @@ pub mod Verdict
 pub mod Blocking
 pub mod Minimal
 pub mod Promise
+pub mod Never
 pub mod Bounds
 -- The set pieces.
 pub mod Essential
 pub mod Pieces
+pub mod Accepted
 pub mod Examples

@@ -1,23 +1,25 @@
 -- What a check finds has that check's number.
 use mathlib.Core.Path.{_≡_, refl, sym, ap, subst, _∙_}
+use mathlib.Core.Logic.{_≢_}
 use mathlib.Core.Bool.{Bool, true, false, not, _||_}
 use mathlib.Core.List.{List, [], _∷_, _++_}
 use mathlib.Core.Option.{Option, none, some, Option·map, Option·some-injective}
 use Prim.Native.Nat.{ℕ, _/_, _%_, _^_, _*_}
 use lib.Dec.{T, eqb, leb, ltb}
 use lib.ListN.{length}
-use Rattle.hazard.specs.Limits.{mostRequired, mostProducts}
+use Rattle.hazard.specs.Limits.{mostMoving, mostRequired, mostProducts}
 use Rattle.hazard.specs.Search.{first, firstPlace, firstOf}
-use Rattle.hazard.specs.Cube.{isProduct}
+use Rattle.hazard.specs.Cube.{distance, isProduct}
 use Rattle.hazard.specs.Transition.{value, off, start, end, count, functionHazardAt, undefinedAt}
 use Rattle.hazard.specs.Sets.{Required, required, privileged}
 use Rattle.hazard.specs.Growth.{Growth, Legal, Blocked, grow}
 use Rattle.hazard.specs.Cover.{Network, productAt}
-use Rattle.hazard.specs.Refusal.{Refusal, refusal, productRefusal, refuseIf, inputsCheck, lengthCheck, bytesCheck, listCheck, endsCheck, definedCheck, rulesCheck, manyCheck, inputChecks}
+use Rattle.hazard.specs.Refusal.{Refusal, refusal, productRefusal, refuseIf, inputsCheck, lengthCheck, bytesCheck, listCheck, endsCheck, burstsCheck, definedCheck, rulesCheck, manyCheck, inputChecks}
 use Rattle.hazard.specs.Verdict.{products, productsCheck, digitsCheck, verifierChecks}
 use Rattle.hazard.specs.Minimal.{blockedBy, blockCheck, roomCheck, blocking, minimiserChecks}
 use Rattle.hazard.proofs.Test.{or-l, or-r, eqb-of}
-use Rattle.hazard.proofs.Search.{none-some, firstOf-left, firstOf-right, firstOf-some, firstOf-one}
+use Rattle.hazard.proofs.Search.{none-some, firstOf-left, firstOf-right, firstOf-some, firstOf-one, firstOf-as}
+use Rattle.hazard.proofs.Few.{ruleChecks, many-never}
 
 -- What the check finds has the number k.
 abbrev pub Numbered : ℕ → Option Refusal → Type 0
@@ -57,6 +59,9 @@ module _ (n : ℕ) where
 
   pub ends-number : (ts : List ℕ) → Numbered 5 (endsCheck n ts)
   ends-number ts = search-number (λ k. refusal 5 k 0) (λ k. refl) (first (λ k. leb (2 ^ n) (start ts k) || leb (2 ^ n) (end ts k)) 0 (count ts))
+
+  pub bursts-number : (ts : List ℕ) → Numbered 14 (burstsCheck n ts)
+  bursts-number ts = search-number _ (λ k. refl) (first (λ k. ltb mostMoving (distance n (start ts k) (end ts k))) 0 (count ts))
 
   pub defined-number : (f ts : List ℕ) → Numbered 6 (definedCheck n f ts)
   defined-number f ts = search-number (λ p. refusal 6 (p .0) (p .1)) (λ p. refl) (firstPlace (λ k. undefinedAt n f (start ts k) (end ts k)) 0 (count ts))
@@ -105,16 +110,19 @@ later-found {ks} {l} m {q} s t e = go (firstOf l) refl
     go (some p) h = absurd (t (number-listed s (h ∙ sym (firstOf-left l m h) ∙ e)))
 
 module _ (n : ℕ) (f ts : List ℕ) where
-  -- The input rules have numbers, which compute to a list,
-  abbrev pub input-numbers : (ks : List ℕ) × Numbers ks (inputChecks n f ts)
-  input-numbers = (
+  -- The input rules have numbers, which compute to a list: those before check 8,
+  abbrev pub rule-numbers : (ks : List ℕ) × Numbers ks (ruleChecks n f ts)
+  rule-numbers = (
     _,
     next (inputs-number n)
         (next (length-number n f) (next (bytes-number n f)
-        (next (list-number n ts) (next (ends-number n ts)
-        (next (defined-number n f ts) (next (rules-number n f ts)
-        (next (many-number n f ts) no-more))))))),
+        (next (list-number n ts) (next (ends-number n ts) (next (bursts-number n ts)
+        (next (defined-number n f ts) (next (rules-number n f ts) no-more))))))),
   )
+
+  -- all of them,
+  abbrev pub input-numbers : (ks : List ℕ) × Numbers ks (inputChecks n f ts)
+  input-numbers = (_, numbers-append (rule-numbers .1) (next (many-number n f ts) no-more))
 
   -- and so have the checks before blocking,
   abbrev pub room-numbers : (room : ℕ) → (ks : List ℕ) × Numbers ks (inputChecks n f ts ++ (roomCheck n f ts room ∷ []))
@@ -133,3 +141,9 @@ module _ (n : ℕ) (f ts : List ℕ) where
   ten-blocks room {q} e h =
       let (a, b) = later-found (blocking n f ts ∷ []) (room-numbers room .1) (λ t. subst (λ (k : ℕ). T (listed k (room-numbers room .0))) h t) e in
       (a, sym (firstOf-one (blocking n f ts)) ∙ b)
+
+  -- Refusal 8 never comes, whatever checks with other numbers follow the input rules.
+  pub never-eight : {ks : List ℕ} {later : List (Option Refusal)} {q : Refusal} → Numbers ks later → ¬ T (listed 8 ks) → firstOf (inputChecks n f ts ++ later) ≡ some q → q .number ≢ 8
+  never-eight {ks} {later} s t e h =
+      t (subst (λ (k : ℕ). T (listed k (rule-numbers .0 ++ ks))) h
+      (number-listed (numbers-append (rule-numbers .1) s) (sym (firstOf-as (inputChecks n f ts) (ruleChecks n f ts) later (many-never n f ts)) ∙ e)))

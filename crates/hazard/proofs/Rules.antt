@@ -9,12 +9,12 @@ use native.Mathlib.Omega.{arith}
 use native.Mathlib.Decide.{ℕ-discrete, decLt}
 use lib.Dec.{T, eqb, leb, ltb, le→leb, lt→ltb}
 use lib.ListN.{length, List·getD-eq-default}
-use Rattle.hazard.specs.Limits.{mostRequired}
+use Rattle.hazard.specs.Limits.{mostMoving}
 use Rattle.hazard.specs.Search.{first, firstPlace}
-use Rattle.hazard.specs.Cube.{has, span}
+use Rattle.hazard.specs.Cube.{has, span, distance}
 use Rattle.hazard.specs.Transition.{value, start, end, count, Kind, low, rise, fall, high, kindOf, functionHazard, functionHazardAt, undefinedAt}
-use Rattle.hazard.specs.Sets.{kindAt, required}
-use Rattle.hazard.specs.Refusal.{Refusal, refusal, refuseIf, inputsCheck, lengthCheck, bytesCheck, listCheck, endsCheck, definedCheck, manyCheck, inputChecks, Accepted}
+use Rattle.hazard.specs.Sets.{kindAt}
+use Rattle.hazard.specs.Refusal.{Refusal, refusal, refuseIf, inputsCheck, lengthCheck, bytesCheck, listCheck, endsCheck, burstsCheck, definedCheck, inputChecks, Accepted}
 use Rattle.hazard.proofs.Test.{tests, T-and, no-or, eqb-of}
 use Rattle.hazard.proofs.Search.{none-some, first-none, place-none, firstOf-none, entries}
 use Rattle.hazard.proofs.Cube.{→has, span-left, span-right}
@@ -54,9 +54,10 @@ ends-within n ts e k l =
     let q : ¬ (2 ^ n ≤ end ts k) = λ h. u .1 (le→leb (2 ^ n) (end ts k) h) in
     (omega arith, omega arith)
 
-pub many-few : (n : ℕ) (f ts : List ℕ) → manyCheck n f ts ≡ none → length (required n f ts) ≤ mostRequired
-many-few n f ts e =
-    let p : ¬ (mostRequired < length (required n f ts)) = λ l. lets (ltb mostRequired (length (required n f ts))) 8 e (lt→ltb mostRequired (length (required n f ts)) l) in
+pub bursts-narrow : (n : ℕ) (ts : List ℕ) → burstsCheck n ts ≡ none → (k : ℕ) → k < count ts → distance n (start ts k) (end ts k) ≤ mostMoving
+bursts-narrow n ts e k l =
+    let t = first-none (λ j. ltb mostMoving (distance n (start ts j) (end ts j))) 0 (count ts) (map-eq-none-iff _ _ .0 e) k (omega arith) (omega arith) in
+    let p : ¬ (mostMoving < distance n (start ts k) (end ts k)) = λ h. t (lt→ltb mostMoving (distance n (start ts k) (end ts k)) h) in
     omega arith
 
 -- The values at the two ends.
@@ -132,9 +133,6 @@ module _ (n : ℕ) (f ts : List ℕ) (accepted : Accepted n f ts) where
       (map-eq-none-iff (λ p. refusal 7 (p .0) (p .1)) (firstPlace (λ j. functionHazardAt n f (start ts j) (end ts j)) 0 (count ts)) .0
       (passes (search entries depth 20)))
       k (omega arith) (omega arith)
-
-  pub required-few : length (required n f ts) ≤ mostRequired
-  required-few = many-few n f ts (passes (search entries depth 20))
 
   pub rules-at : (k : ℕ) → k < count ts → RulesAt n f (start ts k) (end ts k) (kindAt f ts k)
   rules-at k l =

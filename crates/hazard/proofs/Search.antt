@@ -210,6 +210,14 @@ firstOf-rest [] m e = e
 firstOf-rest (none ∷ l) m e = firstOf-rest l m e
 firstOf-rest (some b ∷ l) m e = refl
 
+-- A list of searches that finds the same can stand in its place.
+pub firstOf-as : {A : Type 0} (l k m : List (Option A)) → firstOf l ≡ firstOf k → firstOf (l ++ m) ≡ firstOf (k ++ m)
+firstOf-as {A} l k m e = go (firstOf k) refl
+  where
+    go : (o : Option A) → firstOf k ≡ o → firstOf (l ++ m) ≡ firstOf (k ++ m)
+    go none h = firstOf-right l m (e ∙ h) ∙ sym (firstOf-right k m h)
+    go (some a) h = firstOf-left l m (e ∙ h) ∙ sym (firstOf-left k m h)
+
 -- Two lists of searches find nothing exactly if each finds nothing.
 pub firstOf-append : {A : Type 0} (l m : List (Option A)) → (firstOf (l ++ m) ≡ none) ↔ ((firstOf l ≡ none) × (firstOf m ≡ none))
 firstOf-append [] m = (λ e. (refl, e), λ e. e .1)

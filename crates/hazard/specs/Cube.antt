@@ -42,6 +42,11 @@ abbrev pub span : ℕ → ℕ → ℕ → Cube
 span zero p q = []
 span (suc n) p q = over (p % 2) (q % 2) ∷ span n (p / 2) (q / 2)
 
+-- The Hamming distance of two points: at how many of n inputs they differ. A transition from a to b moves so many.
+abbrev pub distance : ℕ → ℕ → ℕ → ℕ
+distance zero a b = 0
+distance (suc n) a b = cond (eqb (a % 2) (b % 2)) 0 1 + distance n (a / 2) (b / 2)
+
 -- The supercube of a cube and a point: the smallest cube around both.
 abbrev pub join : Cube → ℕ → Cube
 join [] x = []

@@ -1,6 +1,10 @@
 -- The limits that can be moved, each in one place. What is at most 10, 64 or 4,096 is fixed, and stands as a number.
 use Prim.Native.Nat.{ℕ, _*_}
 
+-- The most inputs that a transition moves.
+abbrev pub mostMoving : ℕ
+mostMoving = 5
+
 -- The most required cubes of a problem.
 abbrev pub mostRequired : ℕ
 mostRequired = 3072

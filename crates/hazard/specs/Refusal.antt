@@ -1,4 +1,4 @@
--- What goes back when work is declined, and the input rules: checks 1 to 8.
+-- What goes back when work is declined, and the input rules: checks 1 to 8, and 14 after 5.
 use mathlib.Core.Path.{_≡_}
 use mathlib.Core.Bool.{Bool, cond, not, _||_}
 use mathlib.Core.List.{List, [], _∷_, _++_}
@@ -6,8 +6,9 @@ use mathlib.Core.Option.{Option, none, some, Option·map}
 use Prim.Native.Nat.{ℕ, _%_, _^_}
 use lib.Dec.{eqb, leb, ltb}
 use lib.ListN.{length}
-use Rattle.hazard.specs.Limits.{mostRequired}
+use Rattle.hazard.specs.Limits.{mostMoving, mostRequired}
 use Rattle.hazard.specs.Search.{first, firstPlace, firstOf}
+use Rattle.hazard.specs.Cube.{distance}
 use Rattle.hazard.specs.Transition.{value, start, end, count, functionHazardAt, undefinedAt}
 use Rattle.hazard.specs.Sets.{required}
 
@@ -62,6 +63,10 @@ listCheck ts = refuseIf (eqb (length ts) 0 || (eqb (length ts % 2) 1 || ltb 64 (
 abbrev pub endsCheck : ℕ → List ℕ → Option Refusal
 endsCheck n ts = Option·map (λ k. refusal 5 k 0) (first (λ k. leb (2 ^ n) (start ts k) || leb (2 ^ n) (end ts k)) 0 (count ts))
 
+-- 14: more inputs move than the limit; the first such transition.
+abbrev pub burstsCheck : ℕ → List ℕ → Option Refusal
+burstsCheck n ts = Option·map (λ k. refusal 14 k 0) (first (λ k. ltb mostMoving (distance n (start ts k) (end ts k))) 0 (count ts))
+
 -- 6: a don't care in some [A,B]; the first such transition, the lowest point.
 abbrev pub definedCheck : ℕ → List ℕ → List ℕ → Option Refusal
 definedCheck n f ts = Option·map (λ p. refusal 6 (p .0) (p .1)) (firstPlace (λ k. undefinedAt n f (start ts k) (end ts k)) 0 (count ts))
@@ -70,7 +75,7 @@ definedCheck n f ts = Option·map (λ p. refusal 6 (p .0) (p .1)) (firstPlace (�
 abbrev pub rulesCheck : ℕ → List ℕ → List ℕ → Option Refusal
 rulesCheck n f ts = Option·map (λ p. refusal 7 (p .0) (p .1)) (firstPlace (λ k. functionHazardAt n f (start ts k) (end ts k)) 0 (count ts))
 
--- 8: more required cubes than the limit.
+-- 8: more required cubes than the limit. What the checks before it let through never has so many: this one never finds anything.
 abbrev pub manyCheck : ℕ → List ℕ → List ℕ → Option Refusal
 manyCheck n f ts = refuseIf (ltb mostRequired (length (required n f ts))) 8
 
@@ -80,7 +85,7 @@ tableChecks n f = lengthCheck n f ∷ bytesCheck f ∷ []
 
 -- of the list of transitions,
 abbrev pub listChecks : ℕ → List ℕ → List (Option Refusal)
-listChecks n ts = listCheck ts ∷ endsCheck n ts ∷ []
+listChecks n ts = listCheck ts ∷ endsCheck n ts ∷ burstsCheck n ts ∷ []
 
 -- and of the table under the transitions.
 abbrev pub pointsChecks : ℕ → List ℕ → List ℕ → List (Option Refusal)

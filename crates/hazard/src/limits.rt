@@ -1,5 +1,8 @@
 // The limits that can be moved, each in one place: those of specs/Limits.
 
+// The most inputs that a transition moves.
+pub const MOST_MOVING: u32 = 5;
+
 // The most required cubes of a problem.
 pub const MOST_REQUIRED: usize = 3072;
 
