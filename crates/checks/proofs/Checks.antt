@@ -2,25 +2,29 @@
 use mathlib.Core.Path.{_≡_, sym, ap, subst, _∙_}
 use mathlib.Core.List.{List}
 use mathlib.Core.Option.{Option, none, some}
-use Prim.Native.Nat.{ℕ}
+use Prim.Native.Nat.{ℕ, _≤_}
 use lib.ListN.{length, take}
+use Rattle.hazard.specs.Limits.{mostRequired}
 use Rattle.hazard.specs.Search.{firstOf}
 use Rattle.hazard.specs.Refusal as spec
 use Rattle.hazard.specs.Sets.{required, privileged}
 use Rattle.hazard.proofs.Search.{firstOf-none, entries}
+use Rattle.hazard.proofs.Few.{all-few}
 use Rattle.context.specs.Places.{words, zerosIn, onesIn}
 use Rattle.context.specs.Planes.{Plane}
 use Rattle.context.specs.Context.{tableIn, Planes}
 use Rattle.context.proofs.Values.{table-is, planes-are, planes-same, table-same}
+use Rattle.cube.specs.Entry.{requiredIn}
+use Rattle.sets.specs.Held.{Held}
 use Rattle.kinds.specs.Ready.{Ready}
 use Rattle.rules.proofs.Ready.{defined-ready}
 use Rattle.refusal.specs.Answer.{refusalOf}
 use Rattle.refusal.specs.declared.refusal.Refusal.{Refusal}
 use Rattle.form.specs.Formed.{Formed}
 use Rattle.checks.specs.Problem.{Privileged, fewCubes, Problem}
-use Rattle.checks.specs.Answer.{CountedBy, Answer}
-use Rattle.checks.specs.declared.many.Counted.{Counted}
-use Rattle.checks.specs.declared.many.Counted.the-variants as counted
+use Rattle.checks.specs.Answer.{Answer}
+use Rattle.checks.specs.declared.check.Counted.{Counted}
+use Rattle.checks.specs.declared.check.Counted.the-variants as counted
 
 -- The planes of a problem of the right form.
 module _ {n : ℕ} {f ts : List ℕ} (w : List ℕ) (g : Formed n f ts) (long : length w ≡ words) (z : Plane f 0 (zerosIn w)) (o : Plane f 1 (onesIn w)) where
@@ -44,23 +48,20 @@ module _ {n : ℕ} {f ts : List ℕ} (w : List ℕ) (g : Formed n f ts) (long : 
     stored-table : tableIn n v ≡ f
     stored-table = table-same n w v (h .zeros·) (h .ones·) ∙ formed-table
 
-    -- The problem, when check 8 has counted the required cubes.
-    pub problem-counted : {all : Option spec.Refusal} → firstOf (spec.pointsChecks n (tableIn n w) ts) ≡ none → all ≡ spec.manyCheck n f ts
-        → (before after : List ℕ) → length before ≡ fewCubes → (r : Counted) → CountedBy (spec.manyCheck n (tableIn n v) ts) n v ts before after r → Answer all n f ts v after r
-    problem-counted e q before after m (counted.Accepted k) c = (
-      q ∙ ap (λ (l : List ℕ). spec.manyCheck n l ts) (sym stored-table) ∙ c .0,
-      record {
-        ready = stored-ready e;
-        legal = h .ready;
-        table = stored-table;
-        privileged· = h .is ∙ ap (λ (l : List ℕ). privileged n l ts) formed-table;
-        room = c .1 .long ∙ m;
-        count· = c .1 .size ∙ ap (λ (l : List ℕ). length (required n l ts)) stored-table;
-        few· = c .1 .is ∙ ap (λ (l : List ℕ). take (length after) (required n l ts)) stored-table;
-        clean = c .1 .clean;
-      },
-    )
-    problem-counted e q before after m (counted.Refused x) c = q ∙ ap (λ (l : List ℕ). spec.manyCheck n l ts) (sym stored-table) ∙ c
+    -- The problem, with its required cubes counted and stored.
+    pub problem-stored : firstOf (spec.pointsChecks n (tableIn n w) ts) ≡ none → {before after : List ℕ} → length before ≡ fewCubes
+        → {k : ℕ} → Held n (requiredIn n) before after k (required n (tableIn n v) ts) → Problem n f ts v after k
+    problem-stored e {after = after} m c =
+        record {
+          ready = stored-ready e;
+          legal = h .ready;
+          table = stored-table;
+          privileged· = h .is ∙ ap (λ (l : List ℕ). privileged n l ts) formed-table;
+          room = c .long ∙ m;
+          count· = c .size ∙ ap (λ (l : List ℕ). length (required n l ts)) stored-table;
+          few· = c .is ∙ ap (λ (l : List ℕ). take (length after) (required n l ts)) stored-table;
+          clean = c .clean;
+        }
 
 -- The answer, by its cases.
 module _ (n : ℕ) (f ts w few : List ℕ) where
@@ -77,3 +78,7 @@ module _ (n : ℕ) (f ts w few : List ℕ) where
 -- An accepted problem, said of the table that its context holds.
 pub accepted-in : {n : ℕ} {f ts w few : List ℕ} {k : ℕ} → spec.Accepted n f ts × Problem n f ts w few k → spec.Accepted n (tableIn n w) ts × Problem n (tableIn n w) ts w few k
 accepted-in {n} {f} {ts} {w} {few} {k} h = subst (λ (l : List ℕ). spec.Accepted n l ts × Problem n l ts w few k) (sym (h .1 .table)) h
+
+-- There is room for all required cubes in an array as long as the limit.
+pub ready-few : {n : ℕ} {w ts : List ℕ} → Ready n w ts → length (required n (tableIn n w) ts) ≤ mostRequired
+ready-few {n} {w} {ts} r = all-few n (tableIn n w) ts (r .listed .narrow) (r .listed .small) (r .listed .few)

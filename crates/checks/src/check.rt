@@ -1,24 +1,29 @@
 // The input rules, one run after another, and what they leave of a problem.
 ghost use mathlib.Core.Path.{_≡_};
-ghost use mathlib.Core.List.{[], _∷_, _++_};
 ghost use lib.ListN.{length};
 ghost use Rattle.hazard.specs.Search.{firstOf};
-ghost use Rattle.hazard.specs.Refusal.{inputChecks, pointsChecks, manyCheck};
+ghost use Rattle.hazard.specs.Refusal.{inputChecks, pointsChecks};
 ghost use Rattle.context.specs.Places.{words};
 ghost use Rattle.form.specs.Formed.{Formed};
 ghost use Rattle.checks.specs.Problem.{fewCubes};
 ghost use Rattle.checks.specs.Answer.{Answer};
-use crate::many::Counted;
-use crate::many::FEW;
-use crate::many::check_many;
+use crate::stored::FEW;
 use crate::stored::sets_into;
+use crate::stored::store_required;
 use context::places::WORDS;
 use context::planes::planes_into;
 use form::form::form_checks;
 use refusal::checked::Checked;
+use refusal::refusal::Refusal;
 use rules::run::points_checks;
 
-// Checks 6 to 8. The table is read, into the planes of the context; from there on the context says all of it.
+// What the input rules say: how many required cubes there are, or a refusal.
+pub enum Counted {
+    Accepted(usize),
+    Refused(Refusal),
+}
+
+// Checks 6 and 7. The table is read, into the planes of the context; from there on the context says all of it.
 fn problem_into(
     n: usize,
     table: &[u8],
@@ -27,18 +32,19 @@ fn problem_into(
     required: &mut [u64],
 ) -> Counted
     requires { ⌜ Formed n (now table) (now transitions) × (length (now context) ≡ words) × (length (now required) ≡ fewCubes) ⌝ }
-    ensures { λ r. ⌜ Answer (firstOf (pointsChecks n (now (table .entry)) (now (transitions .entry)) ++ (manyCheck n (now (table .entry)) (now (transitions .entry)) ∷ []))) n (now (table .entry)) (now (transitions .entry)) (now (context .exit)) (now (required .exit)) r ⌝ }
+    ensures { λ r. ⌜ Answer (firstOf (pointsChecks n (now (table .entry)) (now (transitions .entry)))) n (now (table .entry)) (now (transitions .entry)) (now (context .exit)) (now (required .exit)) r ⌝ }
 {
     planes_into(table, context);
     if let Checked::Refused(r) = points_checks(n, context, transitions) {
         return Counted::Refused(r);
     }
     sets_into(n, transitions, context);
-    check_many(n, context, transitions, required)
+    let count = store_required(n, context, transitions, required);
+    Counted::Accepted(count)
 }
 
 // The input rules. Nothing is asked of the problem that comes in; its context is made, and its required cubes are counted, and stored where
-// they are few.
+// they are few. Check 8 is not made: what the others let through never has so many.
 pub fn check(
     n: usize,
     table: &[u8],

@@ -10,6 +10,9 @@ use sets::privileged::privileged_into;
 use sets::required::required_into;
 use sets::unvisited::unvisited_into;
 
+// How many cubes a small room holds, required cubes or products: as many as one word has bits. Most problems need no larger room.
+pub const FEW: usize = 64;
+
 // The privileged cubes, in the context: at most one for each of 64 transitions.
 pub fn sets_into(n: usize, transitions: &[u16], context: &mut [u64])
     requires { ⌜ Ready n (now context) (now transitions) ⌝ }

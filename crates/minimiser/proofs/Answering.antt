@@ -16,7 +16,8 @@ use Rattle.hazard.specs.Sets as sets
 use Rattle.hazard.specs.Refusal.{Refusal, refusal, inputChecks, Accepted}
 use Rattle.hazard.specs.Minimal.{roomCheck, blocking, minimiserChecks, Minimised, declined, bytesOf, Promise}
 use Rattle.hazard.proofs.Search.{none-some, firstOf-left, firstOf-right, firstOf-one}
-use Rattle.hazard.proofs.Rules.{few-inputs, required-few}
+use Rattle.hazard.proofs.Few.{required-few}
+use Rattle.hazard.proofs.Rules.{few-inputs}
 use Rattle.hazard.proofs.Minimal.{minimal}
 use Rattle.hazard.proofs.Promise.{promise-refused, promise-written}
 use Rattle.cube.specs.Entry.{requiredIn, cubeIn, networkIn}

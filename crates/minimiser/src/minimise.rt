@@ -12,9 +12,9 @@ ghost use Rattle.selection.specs.Answer.{minimisedOf};
 ghost use Rattle.minimiser.specs.Answer.{Answered};
 use crate::network::network_few;
 use crate::network::network_many;
+use checks::check::Counted;
 use checks::check::check;
-use checks::many::Counted;
-use checks::many::FEW;
+use checks::stored::FEW;
 use checks::stored::store_required;
 use context::places::WORDS;
 use hazard::limits::MOST_REQUIRED;
@@ -23,7 +23,7 @@ use selection::minimised::Minimised;
 
 // The network of a problem with so many required cubes that they are stored anew, in an array that has room for all.
 fn network_large(n: usize, context: &[u64], transitions: &[u16], cover: &mut [u8]) -> Minimised
-    requires { ⌜ Accepted n (tableIn n (now context)) (now transitions) × kinds.Ready n (now context) (now transitions) × Ready n (now context) × (length (sets.required n (tableIn n (now context)) (now transitions)) * n ≤ length (now cover)) ⌝ }
+    requires { ⌜ kinds.Ready n (now context) (now transitions) × Ready n (now context) × (length (sets.required n (tableIn n (now context)) (now transitions)) * n ≤ length (now cover)) ⌝ }
     ensures { λ r. ⌜ Answered n (offIn (now (context .entry))) (privilegedOf n (now (context .entry))) (sets.required n (tableIn n (now (context .entry))) (now (transitions .entry))) (now (cover .entry)) (now (cover .exit)) (minimisedOf r) ⌝ }
 {
     let mut required = [0u64; MOST_REQUIRED];

@@ -10,7 +10,7 @@ ghost use Rattle.checks.specs.Problem.{fewCubes};
 ghost use Rattle.selection.specs.Answer.{minimisedOf};
 ghost use Rattle.minimiser.specs.Answer.{Answered};
 use crate::write::written;
-use checks::many::FEW;
+use checks::stored::FEW;
 use hazard::limits::MOST_REQUIRED;
 use selection::minimised::Minimised;
 use selection::select::select;

@@ -22,7 +22,8 @@ use Rattle.hazard.specs.Minimal as minimal
 use Rattle.hazard.specs.Minimal.{roomCheck, blocking, minimiserChecks, Minimal, Minimised, written, declined, bytesOf}
 use Rattle.hazard.proofs.Test.{T-and}
 use Rattle.hazard.proofs.Search.{none-some, firstOf-left, firstOf-right, firstOf-one, firstOf-append}
-use Rattle.hazard.proofs.Rules.{few-inputs, required-few}
+use Rattle.hazard.proofs.Few.{required-few}
+use Rattle.hazard.proofs.Rules.{few-inputs}
 use Rattle.hazard.proofs.Numbers.{block-number, Numbers, no-more, next, numbers-append, listed, number-listed, input-numbers}
 use Rattle.problem_text.specs.Decimal.{decimal}
 use Rattle.problem_text.specs.Form.{newline, cell}
@@ -49,7 +50,7 @@ module _ (n : ℕ) (f ts : List ℕ) where
         ap (λ (b : Bool). refuseIf b 9) b
 
     -- With it or without it, the first refusal is the same.
-    same-checks : firstOf (minimiserChecks n f ts room) ≡ firstOf (checks n f ts)
+    pub same-checks : firstOf (minimiserChecks n f ts room) ≡ firstOf (checks n f ts)
     same-checks = go (firstOf (inputChecks n f ts)) refl
       where
         go : (o : Option Refusal) → firstOf (inputChecks n f ts) ≡ o → firstOf (minimiserChecks n f ts room) ≡ firstOf (checks n f ts)

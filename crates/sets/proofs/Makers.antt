@@ -1,18 +1,15 @@
 -- What the makers' walks find are the definitions' labels and points.
 use mathlib.Core.Path.{_≡_, refl, sym, ap, _∙_, subst}
-use mathlib.Core.Bool.{Bool, true, false, not, _&&_}
-use mathlib.Core.List.{List, [], _∷_}
-use Prim.Native.Nat.{ℕ, zero, suc, _*_, _^_, _≤_}
-use native.Mathlib.Omega.{arith}
+use mathlib.Core.Bool.{Bool, true, not, _&&_}
+use mathlib.Core.List.{List}
+use Prim.Native.Nat.{ℕ, _^_, _≤_}
 use lib.Bits.{bitXor, and-zero-r}
 use lib.Dec.{eqb}
-use lib.ListN.{length, length-append, length-map}
-use lib.Pow.{pow-pos, pow-mono}
-use Rattle.hazard.specs.Search.{those}
+use lib.Pow.{pow-pos}
 use Rattle.hazard.specs.Cube as digits
 use Rattle.hazard.specs.Cube.{has, span}
-use Rattle.hazard.specs.Transition.{Kind, low, rise, fall, high, value, further, start, end}
-use Rattle.hazard.specs.Sets.{maximalLabel, labels, kindAt, startAt, requiredOf, requiredFrom}
+use Rattle.hazard.specs.Transition.{value, further}
+use Rattle.hazard.specs.Sets.{maximalLabel}
 use Rattle.cube.specs.declared.mask.Cube.{Cube}
 use Rattle.cube.specs.Mask.{cubeOf, digitsOf, Stands}
 use Rattle.cube.specs.PointSet.{inSet}
@@ -25,7 +22,6 @@ use Rattle.moves.proofs.Agree.{lasts-agree}
 use Rattle.context.specs.Places.{onesIn}
 use Rattle.context.specs.Context.{tableIn, Planes}
 use Rattle.context.proofs.Values.{table-length, plane-ones}
-use Rattle.entries.specs.Store.{requiredTo}
 
 -- Labels: the points of [S,E] in the plane of 1 with no move further into it.
 pub labels-agree : {n : ℕ} {w : List ℕ} → Planes n w → (s e : ℕ) {c : Cube} → Stands n c (span n s e) → {walk : Walk} → Walks n walk (has (cubeOf n c)) → Agrees (λ x. visits walk x && lasts n (inSet (onesIn w)) s e x) (maximalLabel n (tableIn n w) s e) (2 ^ n)
@@ -41,25 +37,3 @@ pub points-agree : {n : ℕ} → n ≤ 10 → {walk : Walk} → Walks n walk (ha
 points-agree {n} few k set =
     let a = walk-agrees k few {test = set} {like = set} (λ x l. refl) in
     record { in· = λ x l. a .in· x l ∙ ap (λ (b : Bool). b && set x) (has-all n x); past = a .past }
-
--- No more pass than there are numbers.
-pub those-few : (test : ℕ → Bool) (from size : ℕ) → length (those test from size) ≤ size
-those-few test from zero = omega arith
-those-few test from (suc size) = go (test from) (those-few test (suc from) size)
-  where
-    go : (b : Bool) → length (those test (suc from) size) ≤ size → length {A = ℕ} (elim b [ true ↦ from ∷ those test (suc from) size | false ↦ those test (suc from) size ]) ≤ suc size
-    go true h = omega arith
-    go false h = omega arith
-
-labels-few : (n : ℕ) (f : List ℕ) (k : Kind) (a b : ℕ) → length (labels n f k a b) ≤ 2 ^ n
-labels-few n f low a b = omega arith
-labels-few n f rise a b = those-few (maximalLabel n f b a) 0 (2 ^ n)
-labels-few n f fall a b = those-few (maximalLabel n f a b) 0 (2 ^ n)
-labels-few n f high a b = pow-pos n
-
--- So the required cubes of m transitions are at most 1,024 m.
-pub required-few : (n : ℕ) (f ts : List ℕ) → n ≤ 10 → (t m : ℕ) → length (requiredFrom n f ts t m) ≤ 1024 * m
-required-few n f ts h t zero = omega arith
-required-few n f ts h t (suc m) =
-    let e = length-append (requiredOf n f ts t) (requiredFrom n f ts (suc t) m) in
-    omega (arith, e, length-map (labels n f (kindAt f ts t) (start ts t) (end ts t)) (requiredTo n t (startAt f ts t)), labels-few n f (kindAt f ts t) (start ts t) (end ts t), pow-mono {j = 10} h, required-few n f ts h (suc t) m)

@@ -13,7 +13,7 @@ ghost use Rattle.checks.specs.Problem.{fewCubes};
 ghost use Rattle.conditions.specs.Answer.{verdictOf};
 ghost use Rattle.network_bytes.specs.Network.{Sound};
 ghost use Rattle.verifier.specs.Judge.{faultOf};
-use checks::many::FEW;
+use checks::stored::FEW;
 use conditions::fault::Verdict;
 use conditions::fault::first_fault;
 use hazard::limits::MOST_PRODUCTS;

@@ -11,9 +11,9 @@ ghost use Rattle.conditions.specs.Answer.{verdictOf};
 ghost use Rattle.network_bytes.specs.Network.{Sound};
 ghost use Rattle.verifier.specs.Judge.{faultOf};
 use crate::judge::judge;
+use checks::check::Counted;
 use checks::check::check;
-use checks::many::Counted;
-use checks::many::FEW;
+use checks::stored::FEW;
 use checks::stored::store_required;
 use conditions::fault::Verdict;
 use context::places::WORDS;
@@ -23,7 +23,7 @@ use refusal::checked::Checked;
 
 // The verdict for a problem with so many required cubes that they are stored anew, in an array that has room for all.
 fn judge_large(n: usize, context: &[u64], transitions: &[u16], network: &[u8]) -> Verdict
-    requires { ⌜ Accepted n (tableIn n (now context)) (now transitions) × kinds.Ready n (now context) (now transitions) × Ready n (now context) × Sound n (now network) ⌝ }
+    requires { ⌜ kinds.Ready n (now context) (now transitions) × Ready n (now context) × Sound n (now network) ⌝ }
     ensures { λ r. ⌜ verdictOf r ≡ faultOf n (offIn (now (context .entry))) (privilegedOf n (now (context .entry))) (required n (tableIn n (now (context .entry))) (now (transitions .entry))) (products n (now (network .entry))) ⌝ }
 {
     let mut required = [0u64; MOST_REQUIRED];

@@ -1,5 +1,7 @@
+use mathlib.Core.Path.{_∙_}
 use mathlib.Core.List.{[], _∷_, _++_}
 use Rattle.hazard.specs.Refusal.{pointsChecks, manyCheck}
+use Rattle.hazard.proofs.Few.{many-never}
 use Rattle.refusal.proofs.Checks.{passed, run-refused, run-passed}
 use Rattle.form.specs.Formed.{formChecks}
 use Rattle.form.proofs.Formed.{formed}
@@ -20,7 +22,7 @@ returns-2 : tie.Need-returns-2
 returns-2 c =
     let a = c .before .before .before .before .before .before .before .before .args in
     answer-as (a .n) (a .table .now) (a .transitions .now) _ _
-    (run-passed (formChecks (a .n) (a .table .now) (a .transitions .now)) (c .before .before .before .before .before .form-checks .ensures) (pointsChecks (a .n) (a .table .now) (a .transitions .now) ++ (manyCheck (a .n) (a .table .now) (a .transitions .now) ∷ [])) (c .before .before .before .enum-told .given .1))
+    (many-never (a .n) (a .table .now) (a .transitions .now) ∙ run-passed (formChecks (a .n) (a .table .now) (a .transitions .now)) (c .before .before .before .before .before .form-checks .ensures) (pointsChecks (a .n) (a .table .now) (a .transitions .now)) (c .before .before .before .enum-told .given .1))
     (c .problem-into .result) (c .problem-into .ensures)
 
 pub check-spec : {M : Type 1} → statement M

@@ -1,17 +1,16 @@
-use mathlib.Core.Path.{_≡_, ap, _∙_}
-use mathlib.Core.List.{List, [], _∷_}
+use mathlib.Core.Path.{_≡_, sym, ap, _∙_}
+use mathlib.Core.List.{List}
 use Prim.Native.Nat.{ℕ}
 use native.Mathlib.Omega.{arith}
 use lib.ListN.{length}
 use lib.Pow.{pow-mono}
 use Rattle.hazard.specs.Search.{firstOf}
-use Rattle.hazard.specs.Refusal.{pointsChecks, manyCheck}
-use Rattle.hazard.proofs.Search.{firstOf-one}
+use Rattle.hazard.specs.Refusal.{pointsChecks}
 use Rattle.context.specs.Places.{words}
 use Rattle.context.specs.Context.{tableIn, Planes}
 use Rattle.refusal.specs.Answer.{checkedOf}
-use Rattle.refusal.proofs.Checks.{passed, run-refused, run-passed}
-use Rattle.checks.proofs.Checks.{formed-planes, formed-table, formed-ready, stored-ready, problem-counted}
+use Rattle.refusal.proofs.Checks.{passed, refused-by}
+use Rattle.checks.proofs.Checks.{formed-planes, formed-table, formed-ready, stored-ready, problem-stored}
 use borrow.Author.Needs.{needs}
 use Rattle.checks.proofs.check.problem_into.Statement.{statement}
 use Rattle.checks.proofs.check.problem_into.Tie as tie
@@ -40,23 +39,21 @@ said : (c : tie.After-points-checks) → let a = c .before .before .before .befo
 said c = let a = c .before .before .before .before .before .before .before .before .before .before .args in c .points-checks .ensures ∙ ap (λ (l : List ℕ). firstOf (pointsChecks (a .n) l (a .transitions .now))) (table (c .before .before .before .before))
 
 returns : tie.Need-returns
-returns c = let a = c .before .before .before .before .before .before .before .before .before .before .before .before .before .args in run-refused (pointsChecks (a .n) (a .table .now) (a .transitions .now)) (said (c .before .before .before)) (manyCheck (a .n) (a .table .now) (a .transitions .now) ∷ []) (c .before .r .given .1)
+returns c = sym (refused-by (said (c .before .before .before)) (c .before .r .given .1))
 
 sets-into-requires : tie.Need-sets-into-requires
 sets-into-requires c κs = let p = c .before .before .before .before .before .before .before in formed-ready (made p) (c .before .before .before .before .before .before .before .before .before .before .before .before .before .pre .0) (long p) (p .planes-into .ensures .0) (p .planes-into .ensures .1) (passed (c .before .before .before .points-checks .ensures) (c .before .enum-told .given .1))
 
-check-many-requires : tie.Need-check-many-requires
-check-many-requires c κs = let p = c .before .before .before .before .before .before .before .before .before .before .before .before in stored-ready (made p) (c .before .before .before .before .before .before .before .before .before .before .before .before .before .before .before .before .before .before .pre .0) (long p) (p .planes-into .ensures .0) (p .planes-into .ensures .1) (c .before .before .before .before .sets-into .ensures) (passed (c .before .before .before .before .before .before .before .before .points-checks .ensures) (c .before .before .before .before .before .before .enum-told .given .1))
+store-required-requires : tie.Need-store-required-requires
+store-required-requires c κs = let p = c .before .before .before .before .before .before .before .before .before .before .before .before in stored-ready (made p) (c .before .before .before .before .before .before .before .before .before .before .before .before .before .before .before .before .before .before .pre .0) (long p) (p .planes-into .ensures .0) (p .planes-into .ensures .1) (c .before .before .before .before .sets-into .ensures) (passed (c .before .before .before .before .before .before .before .before .points-checks .ensures) (c .before .before .before .before .before .before .enum-told .given .1))
 
 returns-2 : tie.Need-returns-2
 returns-2 c =
     let p = c .before .before .before .before .before .before .before .before .before .before .before .before .before .before .before in
     let s = c .before .before .before .before .before .before .before .before .before .before .before .before .before .before .before .before .before .before .before .before .before in
-    let a = s .args in
-    let many = manyCheck (a .n) (a .table .now) (a .transitions .now) in
-    problem-counted (made p) (s .pre .0) (long p) (p .planes-into .ensures .0) (p .planes-into .ensures .1) (c .before .before .before .before .before .before .before .sets-into .ensures) (passed (c .before .before .before .before .before .before .before .before .before .before .before .points-checks .ensures) (c .before .before .before .before .before .before .before .before .before .enum-told .given .1))
-    (run-passed (pointsChecks (a .n) (a .table .now) (a .transitions .now)) (said (c .before .before .before .before .before .before .before .before .before .before .before)) (many ∷ []) (c .before .before .before .before .before .before .before .before .before .enum-told .given .1) ∙ firstOf-one many)
-    (a .required .now) (c .before .before .check-many .last .1 .1 .1 .0) (s .pre .2) (c .before .before .check-many .result) (c .before .before .check-many .ensures)
+    let told = c .before .before .before .before .before .before .before .before .before .enum-told .given .1 in
+    let points = c .before .before .before .before .before .before .before .before .before .before .before in
+    (passed (said points) told, problem-stored (made p) (s .pre .0) (long p) (p .planes-into .ensures .0) (p .planes-into .ensures .1) (c .before .before .before .before .before .before .before .sets-into .ensures) (passed (points .points-checks .ensures) told) (s .pre .2) (c .before .before .store-required .ensures))
 
 pub problem-into-spec : {M : Type 1} → statement M
-problem-into-spec = tie.close (tie.spec planes-into-requires points-checks-requires (λ c. search needs) (λ c. search needs) returns (λ c. search needs) sets-into-requires check-many-requires (λ c. search needs) (λ c. search needs) returns-2)
+problem-into-spec = tie.close (tie.spec planes-into-requires points-checks-requires (λ c. search needs) (λ c. search needs) returns (λ c. search needs) sets-into-requires store-required-requires (λ c. search needs) (λ c. search needs) returns-2)

@@ -6,11 +6,11 @@ use native.Mathlib.Omega.{arith}
 use lib.ListN.{length, take}
 use Rattle.hazard.specs.Limits.{mostRequired}
 use Rattle.hazard.specs.Sets as sets
-use Rattle.hazard.proofs.Rules.{required-few}
 use Rattle.cube.specs.Entry.{requiredIn}
 use Rattle.cube.proofs.Word.{taken-clean}
 use Rattle.context.specs.Context.{offIn, privilegedOf, tableIn}
 use Rattle.sets.proofs.Gather.{held-all}
+use Rattle.checks.proofs.Checks.{ready-few}
 use Rattle.selection.specs.Answer.{minimisedOf}
 use Rattle.minimiser.specs.Answer.{Answered}
 use Rattle.minimiser.proofs.Answering.{part-few}
@@ -20,7 +20,7 @@ use Rattle.minimiser.proofs.minimise.network_large.Tie as tie
 
 -- There is room for all required cubes.
 few : (c : tie.After-store-required) → let a = c .before .before .before .before .before .args in length (sets.required (a .n) (tableIn (a .n) (a .context .now)) (a .transitions .now)) ≤ mostRequired
-few c = let s = c .before .before .before .before .before in required-few (s .args .n) (tableIn (s .args .n) (s .args .context .now)) (s .args .transitions .now) (s .pre .0)
+few c = let s = c .before .before .before .before .before in ready-few (s .pre .0)
 
 room : (c : tie.After-store-required) → c .store-required .result ≤ length (c .store-required .last .1 .1 .1 .0)
 room c = omega (arith, c .store-required .ensures .size, c .store-required .ensures .long, few c)
@@ -37,7 +37,7 @@ network-many-requires c κs =
     let s = c .before .before .before .before .before .before .before .before .before in
     let q = c .before .before .before .before .store-required in
     let e = part-few (s .args .n) (q .last .1 .1 .1 .0) (q .result) (all (c .before .before .before .before)) in
-    ((s .pre .2, omega (arith, e, few (c .before .before .before .before)), rw e (s .pre .3)), rw (sub-zero (q .result)) (taken-clean (s .args .n) (q .result) (q .last .1 .1 .1 .0) (q .ensures .clean)))
+    ((s .pre .1, omega (arith, e, few (c .before .before .before .before)), rw e (s .pre .2)), rw (sub-zero (q .result)) (taken-clean (s .args .n) (q .result) (q .last .1 .1 .1 .0) (q .ensures .clean)))
 
 returns : tie.Need-returns
 returns c =

@@ -32,7 +32,7 @@ network-large-requires c κs =
     let s = c .before .before .before .before .before .before .before in
     let a = s .args in
     let l : a .n * a .count ≤ length (a .cover .now) = omega arith in
-    (s .pre .0, s .pre .1 .ready, s .pre .1 .legal, room-enough (a .n) (tableIn (a .n) (a .context .now)) (a .transitions .now) (a .cover .now) (s .pre .0) (a .count) (s .pre .1 .count·) l)
+    (s .pre .1 .ready, s .pre .1 .legal, room-enough (a .n) (tableIn (a .n) (a .context .now)) (a .transitions .now) (a .cover .now) (s .pre .0) (a .count) (s .pre .1 .count·) l)
 
 returns-2 : tie.Need-returns-2
 returns-2 c =

@@ -10,7 +10,8 @@ use Rattle.points.specs.Walk.{visits}
 use Rattle.points.proofs.Agree.{Agrees}
 use Rattle.entries.specs.declared.store.Corner.the-variants.{Label}
 use Rattle.entries.specs.Store.{requiredAt}
-use Rattle.sets.proofs.Makers.{points-agree, those-few}
+use Rattle.hazard.proofs.Counting.{those-few}
+use Rattle.sets.proofs.Makers.{points-agree}
 use Rattle.sets.proofs.Gather.{Walked, walked-start, walked-room, walked-below, walked-more, walked-end}
 use borrow.Author.Needs.{needs}
 use Rattle.sets.proofs.required.points_into.Statement.{statement}

@@ -5,13 +5,13 @@ use native.Mathlib.Omega.{arith}
 use lib.ListN.{length, length-append}
 use Rattle.hazard.specs.Transition as spec
 use Rattle.hazard.specs.Sets.{requiredOf, requiredFrom, ofTransitions}
+use Rattle.hazard.proofs.Few.{transitions-few}
 use Rattle.cube.specs.Entry.{requiredIn}
 use Rattle.context.specs.Context.{tableIn}
 use Rattle.kinds.specs.Codes.{kindIs}
 use Rattle.kinds.proofs.Coded.{listed-few, ready-ends}
 use Rattle.entries.proofs.Filling.{Filling, filling-start, filling-room, filling-more, filling-end, stored-as, stored-then}
 use Rattle.sets.specs.Held.{requiredBy}
-use Rattle.sets.proofs.Makers.{required-few}
 use Rattle.sets.proofs.Gather.{held, required-step, required-done}
 use borrow.Author.Needs.{needs}
 use Rattle.sets.proofs.required.required_into.Statement.{statement}
@@ -48,7 +48,7 @@ transition-into-requires c κs =
     let f = tableIn (a .n) (a .context .now) in
     let ts = a .transitions .now in
     let l = c .before .before .before .before .before .loop in
-    let most = filling-room (l .inv .1) (2 ^ 32) (omega (arith, required-few (a .n) f ts (r .planes .few) 0 (spec.count ts), r .listed .few)) in
+    let most = filling-room (l .inv .1) (2 ^ 32) (omega (arith, transitions-few (a .n) f ts (r .listed .narrow) 0 (spec.count ts) (omega arith), r .listed .few)) in
     let step = ap length (required-step (a .n) f ts (l .t) (c .before .before .before .before .loop-test .taken)) ∙ length-append (requiredOf (a .n) f ts (l .t)) (requiredFrom (a .n) f ts (l .t + 1) (spec.count ts - (l .t + 1))) in (
       (r .planes, omega (arith, c .before .before .before .start-of .ensures, r .listed .within (2 * l .t)), omega (arith, c .before .before .end-of .ensures, r .listed .within (2 * l .t + 1))),
       omega (arith, most, step, ap length (ends (c .before))),
@@ -68,7 +68,7 @@ points-into-requires c κs =
     let s = c .before .before .before .before .before .before .before in
     let a = s .args in
     let r = s .pre .0 in
-    let most = filling-room (c .before .before .loop .inv .1) (1024 * 64) (omega (arith, required-few (a .n) (tableIn (a .n) (a .context .now)) (a .transitions .now) (r .planes .few) 0 (spec.count (a .transitions .now)), r .listed .few)) in
+    let most = filling-room (c .before .before .loop .inv .1) (32 * 64) (omega (arith, transitions-few (a .n) (tableIn (a .n) (a .context .now)) (a .transitions .now) (r .listed .narrow) 0 (spec.count (a .transitions .now)) (omega arith), r .listed .few)) in
     (r .planes .few, s .pre .1, omega (arith, most))
 
 same-length : tie.Need-same-length Inv-loop μ-loop

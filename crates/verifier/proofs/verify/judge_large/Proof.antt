@@ -6,10 +6,10 @@ use native.Mathlib.Omega.{arith}
 use lib.ListN.{length, take}
 use Rattle.hazard.specs.Sets.{Required}
 use Rattle.hazard.specs.Verdict.{products}
-use Rattle.hazard.proofs.Rules.{required-few}
 use Rattle.cube.specs.Entry.{requiredIn}
 use Rattle.context.specs.Context.{offIn, privilegedOf, tableIn}
 use Rattle.sets.proofs.Gather.{held-all}
+use Rattle.checks.proofs.Checks.{ready-few}
 use Rattle.verifier.specs.Judge.{faultOf}
 use borrow.Author.Needs.{needs}
 use Rattle.verifier.proofs.verify.judge_large.Statement.{statement}
@@ -17,7 +17,7 @@ use Rattle.verifier.proofs.verify.judge_large.Tie as tie
 
 -- There is room for all required cubes.
 room : (c : tie.After-store-required) → c .store-required .result ≤ length (c .store-required .last .1 .1 .1 .0)
-room c = let s = c .before .before .before .before .before in omega (arith, c .store-required .ensures .size, c .store-required .ensures .long, required-few (s .args .n) (tableIn (s .args .n) (s .args .context .now)) (s .args .transitions .now) (s .pre .0))
+room c = let s = c .before .before .before .before .before in omega (arith, c .store-required .ensures .size, c .store-required .ensures .long, ready-few (s .pre .0))
 
 part-judge-end : tie.Need-part-judge-end
 part-judge-end c = room (c .before .before)

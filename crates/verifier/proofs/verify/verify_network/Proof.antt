@@ -25,7 +25,7 @@ sound : (c : tie.After-enum-told) → Sound (c .before .before .before .before .
 sound c = let s = c .before .before .before .before .before .before .before in let a = s .args in network-sound (a .n) (tableIn (a .n) (a .context .now)) (a .transitions .now) (a .network .now) (s .pre .0) (passed (c .before .before .network-checks .ensures) (c .enum-told .given .1))
 
 judge-large-requires : tie.Need-judge-large-requires
-judge-large-requires c κs = let s = c .before .before .before .before .before .before .before .before in (s .pre .0, s .pre .1 .ready, s .pre .1 .legal, sound (c .before))
+judge-large-requires c κs = let s = c .before .before .before .before .before .before .before .before in (s .pre .1 .ready, s .pre .1 .legal, sound (c .before))
 
 returns-2 : tie.Need-returns-2
 returns-2 c =
