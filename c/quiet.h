@@ -4,7 +4,8 @@
  *
  * There are n inputs, 1 to 10, numbered from 0. A point is a number from 0 to 2^n - 1; input i has weight 2^i in it.
  * table:        2^n bytes, one for each point: 0, 1, or 2 for don't care.
- * transitions:  16-bit numbers, two for each transition: start point A, end point B. There are 1 to 64 transitions.
+ * transitions:  16-bit numbers, two for each transition: start point A, end point B. There are 1 to 64 transitions, and A and B differ in at
+ *               most five inputs.
  * A product is n bytes, input 0 first: 0 inverted literal, 1 plain literal, 2 absent. A network is its products one after another.
  *
  * Each slice is a pointer and a length in elements. The pointer is not null, also where the length is 0, and points to so many
@@ -21,23 +22,26 @@
 extern "C" {
 #endif
 
-/* The most required cubes of a problem, which are also the most products of a network that is made; and the most products of a network
- * that is verified. */
+/* The most inputs that a transition changes. No problem has more required cubes, and no network that is made more products; and the most
+ * products of a network that is verified. */
+#define QUIET_MOST_MOVING 5
 #define QUIET_MOST_REQUIRED 3072
 #define QUIET_MOST_PRODUCTS 3072
 
-/* Refusals. The checks run in this order, and the first that applies is returned. Fields that are not named are 0.
+/* Refusals. The checks run in the order of this list, and the first that applies is returned. Fields that are not named are 0.
  *
  *  1  n is 0 or above 10
  *  2  table length is not 2^n
  *  3  a table byte above 2: the lowest such point
  *  4  transition list empty, odd, or above 64 transitions
  *  5  A or B at least 2^n: the first such transition
+ * 14  A and B differ in more than QUIET_MOST_MOVING inputs: the first such transition
  *  6  a 2 in some [A,B]: the first such transition, its lowest such point
  *  7  the kind's rule is broken: the first such transition; the point is the lowest wrong value (static transition) or the lowest one
  *     before a wrong move (dynamic transition)
- *  8  more than QUIET_MOST_REQUIRED required cubes. Each 1 of the table that lies in no [A,B] is one of them, with itself for its label
- *  9  quiet_minimise: buffer shorter than n times the number of required cubes
+ *  8  more than QUIET_MOST_REQUIRED required cubes. This never comes: what the checks above let through never has so many
+ *  9  quiet_minimise: buffer shorter than n times the number of required cubes. Each 1 of the table that lies in no [A,B] is one of them,
+ *     with itself for its label
  * 10  quiet_minimise: a required cube blocks, so no network is hazard-free: the transition and the label of the first such cube, the
  *     steps of its growth, and the lowest zero that it ends at. The transition is always one of the list
  * 11  quiet_verify: network length no multiple of n, or above QUIET_MOST_PRODUCTS products

@@ -1,7 +1,7 @@
 //! Inputs.
 
 use crate::exact::fewest;
-use problems::{accepted, threshold, Problem, Rng, Shape};
+use problems::{accepted, layers, threshold, Problem, Rng, Shape, MOST_LAYERED};
 
 pub struct Case {
     pub problem: Problem,
@@ -123,17 +123,25 @@ fn plain(n: usize) -> Shape {
     }
 }
 
-fn thresholds(name: String, required: usize, count: usize) -> Cases {
-    let mut rng = Rng::new(3);
-    let cases = (0..count).map(|_| {
-        Case::new(threshold(&mut rng, required))
-            .expect("a network")
-            .lengthened()
-    });
+/// Problems with many required cubes, and the longest networks.
+fn long(name: String, problems: impl Iterator<Item = Problem>) -> Cases {
+    let cases = problems.map(|p| Case::new(p).expect("a network").lengthened());
     Cases {
         name,
         cases: cases.collect(),
     }
+}
+
+/// Different falls.
+fn falls(required: usize) -> Cases {
+    let mut rng = Rng::new(3);
+    let problems = (0..2).map(|_| threshold(&mut rng, required));
+    long(required.to_string(), problems)
+}
+
+/// One fall, many times, and single points.
+fn layered(name: String, required: usize) -> Cases {
+    long(name, std::iter::once(layers(required)))
 }
 
 pub const KINDS: [&str; 4] = ["typical", "large", "plain", "worst"];
@@ -143,7 +151,7 @@ pub fn kind(name: &str) -> Cases {
         "typical" => random(name.into(), 1, &shape(8, 20), 40),
         "large" => random(name.into(), 2, &shape(10, 64), 40),
         "plain" => random(name.into(), 6, &plain(10), 20),
-        "worst" => thresholds(name.into(), quiet::MOST_REQUIRED, 2),
+        "worst" => layered(name.into(), MOST_LAYERED),
         _ => panic!("typical, large, plain or worst"),
     }
 }
@@ -180,10 +188,12 @@ pub fn growth_by_transitions() -> Vec<Cases> {
         .collect()
 }
 
+pub fn growth_by_falls() -> Vec<Cases> {
+    [32, 64, 128, 256, 512, 600].map(falls).into()
+}
+
 pub fn growth_by_required() -> Vec<Cases> {
-    (5..=11)
-        .map(|k| 1 << k)
-        .chain([quiet::MOST_REQUIRED])
-        .map(|required| thresholds(required.to_string(), required, 2))
-        .collect()
+    [64, 128, 256, 512, 1024, MOST_LAYERED]
+        .map(|required| layered(required.to_string(), required))
+        .into()
 }

@@ -141,7 +141,7 @@ fn same_refusal(refusal: quiet::Refusal, expected: fast::Refusal) {
     };
     match refusal {
         TableByte { point } => named.point = point,
-        EndPoint { transition } => named.transition = transition,
+        EndPoint { transition } | Burst { transition } => named.transition = transition,
         DontCare { transition, point } | Rule { transition, point } => {
             (named.transition, named.point) = (transition, point);
         }

@@ -1,6 +1,6 @@
 //! Arguments, good and damaged.
 
-use problems::{accepted, threshold, Problem, Rng, Shape};
+use problems::{accepted, layers, threshold, Problem, Rng, Shape, MOST_LAYERED};
 
 /// Mostly few inputs, so that there are many calls.
 fn inputs(rng: &mut Rng) -> usize {
@@ -19,6 +19,27 @@ fn transition_count(rng: &mut Rng) -> usize {
         18 => 1 + rng.below(64),
         _ => 64,
     }
+}
+
+/// The most inputs that the transitions of a problem change: seldom more than the limit.
+fn widest(rng: &mut Rng, n: usize) -> usize {
+    let most = match rng.below(20) {
+        0 => n,
+        _ => n.min(fast::MOST_MOVING as usize),
+    };
+    1 + rng.below(most)
+}
+
+/// The end of a transition from this point: any, or one that changes inputs up to the limit.
+fn end(rng: &mut Rng, n: usize, a: u16) -> u16 {
+    if rng.below(8) == 0 {
+        return rng.below(1 << n) as u16;
+    }
+    let mut b = a;
+    for _ in 0..rng.below(fast::MOST_MOVING as usize + 1) {
+        b ^= 1 << rng.below(n);
+    }
+    b
 }
 
 /// A problem of any family.
@@ -40,13 +61,13 @@ pub fn problem(rng: &mut Rng) -> Problem {
     }
 }
 
-/// Checks 1 to 7 pass.
+/// Checks 1 to 7 pass, and mostly 14.
 fn consistent(rng: &mut Rng) -> Problem {
     let n = inputs(rng);
     let shape = Shape {
         n,
         transitions: transition_count(rng),
-        widest: 1 + rng.below(n),
+        widest: widest(rng, n),
         corners: 1 + rng.below(6),
         dont_cares: rng.pick(&[0, 20, 50, 80, 95, 100]),
         zeros: rng.pick(&[0, 2, 10, 50]),
@@ -60,7 +81,7 @@ fn plain(rng: &mut Rng) -> Problem {
     let shape = Shape {
         n,
         transitions: 1 + rng.below(4),
-        widest: 1 + rng.below(n),
+        widest: widest(rng, n),
         corners: 1 + rng.below(6),
         dont_cares: 0,
         zeros: rng.pick(&[5, 50, 90]),
@@ -74,7 +95,7 @@ fn crowded(rng: &mut Rng) -> Problem {
     let shape = Shape {
         n,
         transitions: 10 + rng.below(30),
-        widest: 3 + rng.below(n - 2),
+        widest: 3 + rng.below(3),
         corners: 1 + rng.below(4),
         dont_cares: rng.pick(&[95, 100]),
         zeros: rng.pick(&[0, 1]),
@@ -86,11 +107,16 @@ fn crowded(rng: &mut Rng) -> Problem {
 fn random(rng: &mut Rng) -> Problem {
     let n = inputs(rng);
     let values = rng.pick(&[2, 3]);
-    let transitions = 2 * transition_count(rng);
+    let table = (0..1 << n).map(|_| rng.below(values) as u8).collect();
+    let mut transitions = Vec::new();
+    for _ in 0..transition_count(rng) {
+        let a = rng.below(1 << n) as u16;
+        transitions.extend([a, end(rng, n, a)]);
+    }
     Problem {
         n,
-        table: (0..1 << n).map(|_| rng.below(values) as u8).collect(),
-        transitions: (0..transitions).map(|_| rng.below(1 << n) as u16).collect(),
+        table,
+        transitions,
     }
 }
 
@@ -111,7 +137,7 @@ fn structured(rng: &mut Rng) -> Problem {
     let mut transitions = Vec::new();
     for _ in 0..transition_count(rng) {
         let a = rng.below(1 << n) as u16;
-        let b = rng.below(1 << n) as u16;
+        let b = end(rng, n, a);
         let pair = match rng.below(8) {
             0 => [a, b],
             1..=4 => [a, a | b],
@@ -126,20 +152,22 @@ fn structured(rng: &mut Rng) -> Problem {
     }
 }
 
-/// About as many required cubes as are allowed.
+/// Many required cubes, up to as many as there can be.
 fn many_required(rng: &mut Rng) -> Problem {
-    let required = match rng.below(3) {
-        0 => fast::MOST_REQUIRED - rng.below(3),
-        1 => fast::MOST_REQUIRED + 1 + rng.below(40),
-        _ => 1 + rng.below(fast::MOST_REQUIRED + 50),
-    };
-    threshold(rng, required)
+    match rng.below(3) {
+        0 => layers(MOST_LAYERED - rng.below(3)),
+        1 => layers(10 + rng.below(MOST_LAYERED - 9)),
+        _ => {
+            let required = 1 + rng.below(600);
+            threshold(rng, required)
+        }
+    }
 }
 
 /// One thing made wrong, or at least changed.
 fn damage(rng: &mut Rng, p: &mut Problem) {
     let n = p.n;
-    match rng.below(13) {
+    match rng.below(14) {
         0 => p.n = rng.pick(&[0, n.saturating_sub(1), n + 1, 11, 12, 64, usize::MAX]),
         1 => {
             p.table.pop();
@@ -187,7 +215,16 @@ fn damage(rng: &mut Rng, p: &mut Problem) {
                 }
             }
         }
+        // six inputs changed, so that check 14 applies
         11 => {
+            if let (pairs, []) = p.transitions.as_chunks_mut::<2>() {
+                if !pairs.is_empty() && n >= 6 {
+                    let at = rng.below(pairs.len());
+                    pairs[at][1] = pairs[at][0] ^ (63 << rng.below(n.min(10) - 5));
+                }
+            }
+        }
+        12 => {
             if !p.table.is_empty() {
                 let at = rng.below(p.table.len());
                 p.table[at] = rng.below(3) as u8;

@@ -12,8 +12,8 @@ pub struct Tally {
     pub independent_products: u64,
     pub joining_products: u64,
     /// by number
-    pub minimise_refusals: [u64; 13],
-    pub verify_refusals: [u64; 13],
+    pub minimise_refusals: [u64; 15],
+    pub verify_refusals: [u64; 15],
     pub verdicts: [u64; 5],
     /// steps of refusal 10
     pub steps: [u64; 11],
@@ -24,9 +24,11 @@ impl Tally {
         self.minimise + self.verify
     }
 
-    /// The refusals and verdicts that no call has met.
+    /// The refusals and verdicts that no call has met. Refusal 8 never comes, and 13 is the program's.
     pub fn never_met(&self) -> Vec<String> {
-        let refusals = (1..=12)
+        let refusals = (1..=7)
+            .chain(9..=12)
+            .chain([14])
             .filter(|&k| self.minimise_refusals[k] + self.verify_refusals[k] == 0)
             .map(|k| format!("refusal {k}"));
         let verdicts = (0..5)

@@ -1,7 +1,7 @@
 //! K1 to K12 and the edges, through both implementations.
 
 use differential::{same_minimise, same_verify, Tally};
-use problems::{threshold, Problem, Rng};
+use problems::{layers, threshold, Problem, Rng, MOST_LAYERED};
 
 fn problem(table: &str, transitions: &[u16]) -> Problem {
     let table: Vec<u8> = table
@@ -82,9 +82,9 @@ fn set_pieces() {
 
 #[test]
 fn edges_of_the_inputs() {
-    let ten = problem(&"1".repeat(1024), &[0, 1023]);
+    let ten = problem(&"1".repeat(1024), &[992, 1023]);
     assert_eq!(minimised(&ten), "2222222222");
-    let eleven = problem(&"1".repeat(2048), &[0, 1023]);
+    let eleven = problem(&"1".repeat(2048), &[992, 1023]);
     assert_eq!(minimised(&eleven), "refused 1 0 0 0 0");
 }
 
@@ -99,14 +99,29 @@ fn edges_of_the_transitions() {
 }
 
 #[test]
-fn edges_of_the_required_cubes() {
-    let mut rng = Rng::new(1);
-    let most = threshold(&mut rng, quiet::MOST_REQUIRED);
+fn edges_of_a_transition() {
+    let ones = "1".repeat(64);
+    assert_eq!(minimised(&problem(&ones, &[0, 31])), "222222");
+    let six = "refused 14 1 0 0 0";
+    assert_eq!(minimised(&problem(&ones, &[0, 31, 0, 63, 62, 1])), six);
+    // after an end that is no point, before a don't care and before a broken rule
+    let outside = "refused 5 1 0 0 0";
+    assert_eq!(minimised(&problem(&ones, &[0, 63, 0, 64])), outside);
+    let rest = "1".repeat(62);
+    assert_eq!(minimised(&problem(&format!("1-{rest}"), &[0, 1, 0, 63])), six);
+    assert_eq!(minimised(&problem(&format!("10{rest}"), &[0, 3, 0, 63])), six);
+}
+
+#[test]
+fn most_required_cubes() {
+    let most = layers(MOST_LAYERED);
     let count = fast::required_count(10, &most.table, &most.transitions);
-    assert_eq!(count, Ok(quiet::MOST_REQUIRED));
+    assert_eq!(count, Ok(MOST_LAYERED));
     assert!(!minimised(&most).starts_with("refused"));
-    let above = threshold(&mut rng, quiet::MOST_REQUIRED + 1);
-    assert_eq!(minimised(&above), "refused 8 0 0 0 0");
+    let mut rng = Rng::new(1);
+    let falls = threshold(&mut rng, 600);
+    let count = fast::required_count(10, &falls.table, &falls.transitions);
+    assert_eq!(count, Ok(600));
 }
 
 #[test]

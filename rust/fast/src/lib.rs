@@ -21,6 +21,6 @@ mod verify;
 
 pub use minimise::{minimise, minimise_joining};
 pub use primes::primes_over;
-pub use problem::{required_count, required_cubes, MOST_REQUIRED};
+pub use problem::{required_count, required_cubes, MOST_MOVING};
 pub use refusal::Refusal;
 pub use verify::{verify, Verdict, MOST_PRODUCTS};

@@ -1,10 +1,11 @@
-//! Checks 1 to 8, the OFF-set, the required and the privileged cubes.
+//! Checks 1 to 7 and 14, the OFF-set, the required and the privileged cubes.
 
 use crate::cube::{lowest, write_ranked, Cube, Set, INPUT};
 use crate::planes::planes;
 use crate::refusal::Refusal;
 
-pub const MOST_REQUIRED: usize = 3072;
+/// The most inputs that a transition changes.
+pub const MOST_MOVING: u32 = 5;
 
 #[derive(Clone, Copy, Debug)]
 pub struct Required {
@@ -28,12 +29,12 @@ pub struct Problem {
     pub privileged: Vec<Privileged>,
 }
 
-/// The number of required cubes, or the refusal of checks 1 to 8.
+/// The number of required cubes, or the refusal of checks 1 to 7 and 14.
 pub fn required_count(n: usize, table: &[u8], transitions: &[u16]) -> Result<usize, Refusal> {
     Problem::read(n, table, transitions).map(|p| p.required.len())
 }
 
-/// The required cubes as products, in order, or the refusal of checks 1 to 8.
+/// The required cubes as products, in order, or the refusal of checks 1 to 7 and 14.
 pub fn required_cubes(n: usize, table: &[u8], transitions: &[u16]) -> Result<Vec<u8>, Refusal> {
     let problem = Problem::read(n, table, transitions)?;
     let mut network = vec![0; n * problem.required.len()];
@@ -133,6 +134,10 @@ impl Problem {
         if let Some(k) = transitions.chunks_exact(2).position(outside) {
             return Err(Refusal::at(5, k, 0));
         }
+        let wide = |pair: &[u16]| (pair[0] ^ pair[1]).count_ones() > MOST_MOVING;
+        if let Some(k) = transitions.chunks_exact(2).position(wide) {
+            return Err(Refusal::at(14, k, 0));
+        }
         if free != [0; 16] {
             for (k, pair) in transitions.chunks_exact(2).enumerate() {
                 let cube = Cube::spanned(pair[0], pair[1], full);
@@ -147,19 +152,15 @@ impl Problem {
             required: Vec::with_capacity(256),
             privileged: Vec::with_capacity(64),
         };
-        let mut count = 0;
         for (k, pair) in transitions.chunks_exact(2).enumerate() {
-            count += problem.take(&ones, k, pair[0], pair[1], full)?;
+            problem.take(&ones, k, pair[0], pair[1], full)?;
         }
-        count += problem.take_unvisited(&ones, transitions, full);
-        if count > MOST_REQUIRED {
-            return Err(Refusal::new(8));
-        }
+        problem.take_unvisited(&ones, transitions, full);
         Ok(problem)
     }
 
-    /// The ones that no transition visits are required cubes of their own, with the number of transitions; how many.
-    fn take_unvisited(&mut self, ones: &Set, transitions: &[u16], full: u16) -> usize {
+    /// The ones that no transition visits are required cubes of their own, with the number of transitions.
+    fn take_unvisited(&mut self, ones: &Set, transitions: &[u16], full: u16) {
         let mut left = *ones;
         for pair in transitions.chunks_exact(2) {
             let cube = Cube::spanned(pair[0], pair[1], full);
@@ -168,10 +169,8 @@ impl Problem {
                 left[w] &= !low;
             }
         }
-        let mut count = 0;
         for (w, mut points) in left.into_iter().enumerate() {
-            count += points.count_ones() as usize;
-            while points != 0 && self.required.len() < MOST_REQUIRED {
+            while points != 0 {
                 let point = (64 * w) as u16 + points.trailing_zeros() as u16;
                 points &= points - 1;
                 self.required.push(Required {
@@ -181,11 +180,10 @@ impl Problem {
                 });
             }
         }
-        count
     }
 
-    /// Check 7 of a transition; its cubes are stored, and the required ones counted. Above the limit they are only counted.
-    fn take(&mut self, ones: &Set, k: usize, a: u16, b: u16, full: u16) -> Result<usize, Refusal> {
+    /// Check 7 of a transition, and its cubes.
+    fn take(&mut self, ones: &Set, k: usize, a: u16, b: u16, full: u16) -> Result<(), Refusal> {
         let cube = Cube::spanned(a, b, full);
         let refused = |point| Err(Refusal::at(7, k, point));
         let required = |cube, label| Required {
@@ -198,16 +196,14 @@ impl Problem {
                 if let Some(point) = cube.lowest_in(&self.zeros, self.words) {
                     return refused(point);
                 }
-                if self.required.len() < MOST_REQUIRED {
-                    self.required.push(required(cube, b));
-                }
-                return Ok(1);
+                self.required.push(required(cube, b));
+                return Ok(());
             }
             (false, false) => {
                 if let Some(point) = cube.lowest_in(ones, self.words) {
                     return refused(point);
                 }
-                return Ok(0);
+                return Ok(());
             }
             _ => {}
         }
@@ -217,7 +213,6 @@ impl Problem {
         let away = Moves::new(start, a ^ b);
         let onwards = Moves::new(a, a ^ b);
         let low = cube.low();
-        let mut count = 0;
         for w in cube.words(self.words) {
             let here = ones[w] & low;
             let near = away.leading_into(ones, w);
@@ -230,8 +225,7 @@ impl Problem {
                 return refused(point);
             }
             let mut labels = here & !near;
-            count += labels.count_ones() as usize;
-            while labels != 0 && self.required.len() < MOST_REQUIRED {
+            while labels != 0 {
                 let label = (64 * w) as u16 + labels.trailing_zeros() as u16;
                 labels &= labels - 1;
                 self.required
@@ -243,6 +237,6 @@ impl Problem {
             start,
             transition: k as u16,
         });
-        Ok(count)
+        Ok(())
     }
 }

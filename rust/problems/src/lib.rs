@@ -133,9 +133,9 @@ fn place(rng: &mut Rng, table: &mut [u8], a: usize, differ: usize, corners: usiz
     true
 }
 
-/// Ten inputs, value 1 where at most five are 1, and transitions that only switch inputs on: each falls, and has as many required cubes
-/// as there are ways to reach five. Ones that no transition visits are don't cares, so only the transitions have required cubes. Together
-/// they have the wished number of them, up to 4,400.
+/// Ten inputs, value 1 where at most five are 1, and transitions that only switch inputs on, up to five: each falls, and has as many
+/// required cubes as there are ways to reach five. Ones that no transition visits are don't cares, so only the transitions have required
+/// cubes. Together they have the wished number of them, up to 600.
 pub fn threshold(rng: &mut Rng, required: usize) -> Problem {
     let mut transitions = Vec::new();
     let mut push = |on: u32, more: u32, rng: &mut Rng| loop {
@@ -148,11 +148,11 @@ pub fn threshold(rng: &mut Rng, required: usize) -> Problem {
     };
     let mut left = required;
     while left > 0 {
-        // 70 = 8 over 4, 35 = 7 over 3 = 7 over 4, 6 = 4 over 2, 1 = 1 over 0
+        // 10 = 5 over 2 = 5 over 3, 6 = 4 over 2, 3 = 3 over 1, 1 = 1 over 0
         let (count, on, more) = match left {
-            70.. if required > 2200 => (70, 1, 8),
-            35.. => (35, 1 + rng.below(2) as u32, 7),
+            10.. => (10, 2 + rng.below(2) as u32, 5),
             6.. => (6, 3, 4),
+            3.. => (3, 4, 3),
             _ => (1, 5, 1),
         };
         push(on, more, rng);
@@ -171,5 +171,28 @@ pub fn threshold(rng: &mut Rng, required: usize) -> Problem {
         n: 10,
         table,
         transitions,
+    }
+}
+
+/// The most required cubes that a problem can have: 64 transitions with ten, and 992 single points.
+pub const MOST_LAYERED: usize = 1632;
+
+/// Ten inputs. On the points 0 to 31 the value is 1 where at most two inputs are 1, so the transition from 0 to 31 has ten required cubes; it
+/// comes up to 64 times. Of the other points some are 1, which no transition visits, and the rest don't cares. Together they have the wished
+/// number of required cubes, from 10 to [`MOST_LAYERED`].
+pub fn layers(required: usize) -> Problem {
+    let count = (required / 10).min(64);
+    let points = required - 10 * count;
+    let table = (0..1024usize)
+        .map(|p| match p {
+            ..32 => u8::from(p.count_ones() <= 2),
+            _ if p < 32 + points => 1,
+            _ => 2,
+        })
+        .collect();
+    Problem {
+        n: 10,
+        table,
+        transitions: [0, 31].repeat(count),
     }
 }

@@ -1,8 +1,8 @@
 //! A proved minimiser and verifier for hazard-free two-level logic.
 //!
 //! There are n inputs, 1 to 10. A point is a number below 2^n in which input i has weight 2^i. A table has one byte for each point:
-//! 0, 1, or 2 for don't care. A transition is `[start, end]`, two points. A product is n bytes, input 0 first: 0 for an inverted
-//! literal, 1 for a plain one, 2 for none.
+//! 0, 1, or 2 for don't care. A transition is `[start, end]`, two points that differ in at most five inputs. A product is n bytes, input 0
+//! first: 0 for an inverted literal, 1 for a plain one, 2 for none.
 //!
 //! [`minimise`] writes a hazard-free network in which no product can be dropped and none can be widened, or says why there is none.
 //! [`verify`] passes exactly the hazard-free networks, and else names the first fault. Both are proved for all arguments; this crate
@@ -43,13 +43,16 @@ pub use product::Product;
 pub use refusal::Refusal;
 pub use verdict::Verdict;
 
-/// A start point and an end point.
+/// A start point and an end point, which differ in at most [`MOST_MOVING`] inputs.
 pub type Transition = [u16; 2];
 
 /// The most inputs.
 pub const MOST_INPUTS: usize = 10;
 
-/// The most required cubes, and so the most products of a minimal network. A buffer of n times as many bytes is always long enough.
+/// The most inputs that a transition changes.
+pub const MOST_MOVING: u32 = 5;
+
+/// No problem has more required cubes, and no minimal network more products. A buffer of n times as many bytes is always long enough.
 pub const MOST_REQUIRED: usize = 3072;
 
 /// The most products of a network that is verified.

@@ -1,11 +1,13 @@
 //! Refusals.
 
 use crate::packed::field;
-use crate::{MOST_PRODUCTS, MOST_REQUIRED};
+use crate::{MOST_MOVING, MOST_PRODUCTS};
 use std::error::Error;
 use std::fmt;
 
-/// Why a call was refused. The checks run in the order of the numbers, and the first that applies is returned.
+/// Why a call was refused. The checks run in this order, and the first that applies is returned.
+///
+/// There is no 8, more than [`MOST_REQUIRED`](crate::MOST_REQUIRED) required cubes: no problem has so many.
 #[derive(Clone, Copy, Debug, PartialEq, Eq, Hash)]
 #[non_exhaustive]
 pub enum Refusal {
@@ -19,13 +21,13 @@ pub enum Refusal {
     TransitionList,
     /// 5: a start or end point is at least 2^n, in the first such transition.
     EndPoint { transition: u16 },
+    /// 14: a transition changes more than [`MOST_MOVING`] inputs, the first such transition.
+    Burst { transition: u16 },
     /// 6: a don't care in a transition cube, the first transition and its lowest such point.
     DontCare { transition: u16, point: u16 },
     /// 7: the rule of a transition's kind is broken. The point is the wrong value of a static transition, or the one before the wrong
     /// move of a dynamic one.
     Rule { transition: u16, point: u16 },
-    /// 8: more than [`MOST_REQUIRED`] required cubes.
-    RequiredCubes,
     /// 9: minimiser: the buffer is shorter than n times the number of required cubes.
     Buffer,
     /// 10: minimiser: a required cube blocks, so no network is hazard-free. The first such cube is named by its transition and label,
@@ -43,7 +45,7 @@ pub enum Refusal {
 }
 
 impl Refusal {
-    /// Its number, 1 to 12.
+    /// Its number, 1 to 14.
     pub fn number(&self) -> u8 {
         match self {
             Refusal::Inputs => 1,
@@ -51,9 +53,9 @@ impl Refusal {
             Refusal::TableByte { .. } => 3,
             Refusal::TransitionList => 4,
             Refusal::EndPoint { .. } => 5,
+            Refusal::Burst { .. } => 14,
             Refusal::DontCare { .. } => 6,
             Refusal::Rule { .. } => 7,
-            Refusal::RequiredCubes => 8,
             Refusal::Buffer => 9,
             Refusal::Blocked { .. } => 10,
             Refusal::NetworkLength => 11,
@@ -87,9 +89,9 @@ impl Refusal {
             3 => Refusal::TableByte { point },
             4 => Refusal::TransitionList,
             5 => Refusal::EndPoint { transition },
+            14 => Refusal::Burst { transition },
             6 => Refusal::DontCare { transition, point },
             7 => Refusal::Rule { transition, point },
-            8 => Refusal::RequiredCubes,
             9 => Refusal::Buffer,
             11 => Refusal::NetworkLength,
             12 => Refusal::NetworkByte { product },
@@ -111,13 +113,15 @@ impl fmt::Display for Refusal {
             Refusal::EndPoint { transition } => {
                 write!(f, "A or B at least 2^n: transition {transition}")
             }
+            Refusal::Burst { transition } => {
+                write!(f, "more than {MOST_MOVING} inputs change: transition {transition}")
+            }
             Refusal::DontCare { transition, point } => {
                 write!(f, "a 2 in some [A,B]: transition {transition}, point {point}")
             }
             Refusal::Rule { transition, point } => {
                 write!(f, "the kind's rule is broken: transition {transition}, point {point}")
             }
-            Refusal::RequiredCubes => write!(f, "more than {MOST_REQUIRED} required cubes"),
             Refusal::Buffer => f.write_str("buffer shorter than n × required cubes"),
             Refusal::Blocked {
                 transition,
