@@ -7,7 +7,7 @@ use native.Mathlib.Omega.{arith}
 use lib.Dec.{T, leb}
 use lib.ListN.{length}
 use Rattle.hazard.specs.Search.{those}
-use Rattle.hazard.specs.Cube.{distance}
+use Rattle.hazard.specs.Cube.{has, span, distance}
 use Rattle.hazard.specs.Transition.{off}
 use Rattle.hazard.specs.Sets.{Required, required, privileged}
 use Rattle.hazard.specs.Implicant.{dhfImplicant, StrictlyInside}
@@ -117,3 +117,7 @@ layers5 = map (λ x. cond (leb (distance 5 0 x) 2) 1 0) (those (λ x. true) 0 32
 
 pub ten-required : Accepted 5 layers5 (0 ∷ 31 ∷ []) × (length (required 5 layers5 (0 ∷ 31 ∷ [])) ≡ 10)
 ten-required = (refl, refl)
+
+-- Six inputs would have 64 points, and so more than 32.
+pub six-inputs : (distance 6 0 63 ≡ 6) × (length (those (has (span 6 0 63)) 0 64) ≡ 64)
+six-inputs = (refl, refl)

@@ -9,8 +9,8 @@ mod exact;
 mod timing;
 
 use cases::{
-    growth_by_falls, growth_by_inputs, growth_by_required, growth_by_transitions, kind, small, Cases,
-    KINDS,
+    growth_by_falls, growth_by_inputs, growth_by_required, growth_by_transitions, kind, small,
+    Cases, KINDS,
 };
 use timing::{run, Call, Implementation};
 
@@ -56,7 +56,11 @@ fn tables() {
         table("inputs, 20 transitions", growth_by_inputs(), call);
         table("transitions, 8 inputs", growth_by_transitions(), call);
         table("required cubes of different falls", growth_by_falls(), call);
-        table("required cubes, with single points", growth_by_required(), call);
+        table(
+            "required cubes with single points",
+            growth_by_required(),
+            call,
+        );
     }
     products_table();
 }

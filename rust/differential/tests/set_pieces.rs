@@ -108,8 +108,14 @@ fn edges_of_a_transition() {
     let outside = "refused 5 1 0 0 0";
     assert_eq!(minimised(&problem(&ones, &[0, 63, 0, 64])), outside);
     let rest = "1".repeat(62);
-    assert_eq!(minimised(&problem(&format!("1-{rest}"), &[0, 1, 0, 63])), six);
-    assert_eq!(minimised(&problem(&format!("10{rest}"), &[0, 3, 0, 63])), six);
+    assert_eq!(
+        minimised(&problem(&format!("1-{rest}"), &[0, 1, 0, 63])),
+        six
+    );
+    assert_eq!(
+        minimised(&problem(&format!("10{rest}"), &[0, 3, 0, 63])),
+        six
+    );
 }
 
 #[test]
