@@ -11,7 +11,7 @@ use Rattle.hazard.specs.Transition.{off}
 use Rattle.hazard.specs.Sets.{Required, required, privileged}
 use Rattle.hazard.specs.Refusal.{Refusal}
 use Rattle.hazard.specs.Verdict.{verifierChecks, Verdict, refused, faultA, faultC, faultB, firstFault, fault, products, fieldsOf, Verified}
-use Rattle.hazard.specs.Minimal.{minimiserChecks, Minimised, written, declined, Promise}
+use Rattle.hazard.specs.Minimal.{minimiserChecks, declined, Promise}
 use Rattle.hazard.proofs.Numbers.{no-more, next, block-number, room-number, products-number, digits-number, never-eight}
 
 -- A fault is no refusal.

@@ -1,7 +1,7 @@
 -- Refusal 8 is never printed: whatever refusal the output is the text of, its number is another.
 use mathlib.Core.Logic.{_≢_}
 use mathlib.Core.Path.{_≡_, refl, sym, ap, _∙_}
-use mathlib.Core.List.{List, [], _∷_, _++_}
+use mathlib.Core.List.{List}
 use mathlib.Core.Option.{Option, none, some, Option·some-injective}
 use Prim.Native.Nat.{ℕ, _≤_, _<_}
 use native.Mathlib.Omega.{arith}
@@ -10,15 +10,14 @@ use lib.ListN.{length, getD, take, drop}
 use lib.Seq.{take-at}
 use Rattle.hazard.specs.Limits.{mostCover}
 use Rattle.hazard.specs.Search.{firstOf}
-use Rattle.hazard.specs.Cover.{Network}
 use Rattle.hazard.specs.Refusal.{Refusal, refusal}
 use Rattle.hazard.proofs.Search.{none-some}
 use Rattle.hazard.proofs.Numbers.{no-more, next, block-number, never-eight}
 use Rattle.hazard.proofs.Bounds.{minimiser-bounds}
-use Rattle.problem_text.specs.Form.{space, newline, Formed, flat}
+use Rattle.problem_text.specs.Form.{space, Formed}
 use Rattle.problem_text.specs.Read.{fieldBy}
 use Rattle.problem_text.proofs.Numbers.{field-read}
-use Rattle.writing.specs.Output.{networkText, mostOutput, field, refusalText}
+use Rattle.writing.specs.Output.{mostOutput, refusalText}
 use Rattle.quiet_text.specs.Answer.{checks, Printed, Solved, Replied}
 use Rattle.quiet_text.proofs.Solving.{same-checks}
 

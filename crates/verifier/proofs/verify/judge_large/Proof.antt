@@ -7,7 +7,7 @@ use lib.ListN.{length, take}
 use Rattle.hazard.specs.Sets.{Required}
 use Rattle.hazard.specs.Verdict.{products}
 use Rattle.cube.specs.Entry.{requiredIn}
-use Rattle.context.specs.Context.{offIn, privilegedOf, tableIn}
+use Rattle.context.specs.Context.{offIn, privilegedOf}
 use Rattle.sets.proofs.Gather.{held-all}
 use Rattle.checks.proofs.Checks.{ready-few}
 use Rattle.verifier.specs.Judge.{faultOf}
