@@ -24,7 +24,7 @@ use Rattle.hazard.proofs.Counting.{those-few, those-none, those-halves}
 use Rattle.hazard.proofs.Digit.{top, same}
 use Rattle.hazard.proofs.Cube.{Has, has→, put-has}
 use Rattle.hazard.proofs.Point.{span-swap}
-use Rattle.hazard.proofs.Rules.{inputs-few, list-few, bursts-narrow}
+use Rattle.hazard.proofs.Rules.{inputs-few, list-few, bursts-narrow, narrow}
 use Rattle.hazard.proofs.Sets.{labelsAt, requiredAt, pointAt}
 
 -- [A,B] has at most 2^i points, where i inputs move.
@@ -117,6 +117,10 @@ module _ (n : ℕ) (f ts : List ℕ) where
       go none e =
           firstOf-right (ruleChecks n f ts) (manyCheck n f ts ∷ []) e
           ∙ ap (λ (b : Bool). firstOf (refuseIf b 8 ∷ [])) (le-ltb mostRequired (length (required n f ts)) (rules-few e))
+
+  -- So each transition of an accepted problem has at most 32 required cubes, and the problem no more than the limit.
+  pub accepted-few : Accepted n f ts → (k : ℕ) → k < count ts → length (requiredOf n f ts k) ≤ 32
+  accepted-few a = transition-few n f ts (narrow n f ts a)
 
   pub required-few : Accepted n f ts → length (required n f ts) ≤ mostRequired
   required-few a = rules-few (sym many-never ∙ a)

@@ -124,6 +124,9 @@ module _ (n : ℕ) (f ts : List ℕ) (accepted : Accepted n f ts) where
   pub points : (k : ℕ) → k < count ts → (start ts k < 2 ^ n) × (end ts k < 2 ^ n)
   points = ends-within n ts (passes (search entries depth 20))
 
+  pub narrow : (k : ℕ) → k < count ts → distance n (start ts k) (end ts k) ≤ mostMoving
+  narrow = bursts-narrow n ts (passes (search entries depth 20))
+
   all-defined : (k : ℕ) → k < count ts → undefinedAt n f (start ts k) (end ts k) ≡ none
   all-defined = defined-all n f ts (passes (search entries depth 20))
 
