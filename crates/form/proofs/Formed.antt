@@ -20,7 +20,7 @@ module _ (n : ℕ) (f ts : List ℕ) where
       record {
         whole = length-whole n f (passes (search entries depth 20));
         bytes = λ x l. bytes-few f (passes (search entries depth 20)) x;
-        listed = record { small = inputs-few n (passes (search entries depth 20)) .1; few = list .2; within = within (list .1); narrow = bursts-narrow n ts (passes (search entries depth 20)) };
+        listed = record { small = inputs-few n (passes (search entries depth 20)) .1; few = list .1; within = within (list .0); narrow = bursts-narrow n ts (passes (search entries depth 20)) };
       }
     where
       passes : {o : Option Refusal} → List·Memᴰ o (formChecks n f ts) → o ≡ none

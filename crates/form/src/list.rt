@@ -13,14 +13,11 @@ use kinds::transition::start_of;
 use refusal::checked::Checked;
 use refusal::checked::refused;
 
-// 4: the list is empty, odd, or above 64 transitions.
+// 4: the list is odd, or above 64 transitions.
 pub fn check_list(transitions: &[u16]) -> Checked
     ensures { λ r. ⌜ checkedOf r ≡ listCheck (now (transitions .entry)) ⌝ }
 {
     let size = transitions.len();
-    if size == 0 {
-        return refused(4, 0, 0);
-    }
     if size % 2 == 1 {
         return refused(4, 0, 0);
     }

@@ -104,7 +104,7 @@ module _ (n : ℕ) (f ts : List ℕ) (accepted : Accepted n f ts) where
       go r b (Blocked z s) l (blocked i k z< d o) h =
           let few = few-inputs n f ts accepted .1 in
           let all = points-few few in
-          let ends = list-length n f ts accepted .2 in
+          let ends = list-length n f ts accepted .1 in
           subst (Bounded 1) (Option·some-injective _ _ h)
           (record { number-low = omega arith; number = omega arith; transition = omega (arith, b .0); point = omega (arith, b .1); steps = omega arith; lowest = omega arith; product = omega arith })
 
@@ -149,7 +149,7 @@ module _ {most : ℕ} (p : 1 ≤ most) (n : ℕ) where
       named p (omega arith) (omega arith) (omega arith) (omega (arith, first-some (λ x. ltb 2 (value f x)) 0 (length f) s .1)))
 
   list-bounds : (ts : List ℕ) → Finds most (listCheck ts)
-  list-bounds ts = test-bounds p (eqb (length ts) 0 || (eqb (length ts % 2) 1 || ltb 64 (count ts))) 4 (omega arith) (omega arith)
+  list-bounds ts = test-bounds p (eqb (length ts % 2) 1 || ltb 64 (count ts)) 4 (omega arith) (omega arith)
 
   ends-bounds : (ts : List ℕ) → count ts ≤ 64 → Finds most (endsCheck n ts)
   ends-bounds ts few = search-bounds (λ k. refusal 5 k 0) (first (λ k. leb (2 ^ n) (start ts k) || leb (2 ^ n) (end ts k)) 0 (count ts)) (λ k s.
@@ -188,7 +188,7 @@ module _ (n : ℕ) (f ts : List ℕ) where
       next (length-bounds p n f) (λ c2.
       next (bytes-bounds p n f (omega (arith, length-whole n f c2, points-few small))) (λ c3.
       next (list-bounds p n ts) (λ c4.
-      let few = list-few ts c4 .2 in
+      let few = list-few ts c4 .1 in
       next (ends-bounds p n ts few) (λ c5.
       next (bursts-bounds p n ts few) (λ c14.
       next (defined-bounds p n f ts small few) (λ c6.
@@ -225,10 +225,10 @@ module _ (n : ℕ) (f ts : List ℕ) where
         judged : Accepted n f ts → length (products n bytes) ≤ mostProducts → {v : Verdict} → Named n f ts (products n bytes) v → BoundedFields (fieldsOf v)
         judged a l (none-named h) = small (omega arith) (omega arith) (omega arith) (omega arith)
         judged a l (zero-named i x t o h k) = small (omega arith) (omega arith) (omega arith) (omega (arith, points-few (few-inputs n f ts a .1)))
-        judged a l (illegal-named {v = v} i m t h k w) = small (omega arith) (omega arith) (omega (arith, privileged-bounds n f ts a v m, list-length n f ts a .2)) (omega arith)
+        judged a l (illegal-named {v = v} i m t h k w) = small (omega arith) (omega arith) (omega (arith, privileged-bounds n f ts a v m, list-length n f ts a .1)) (omega arith)
         judged a l (cube-named {r = r} m t h k w) =
             let (b, c) = required-bounds n f ts a r m in
-            small (omega arith) (omega arith) (omega (arith, list-length n f ts a .2)) (omega (arith, points-few (few-inputs n f ts a .1)))
+            small (omega arith) (omega arith) (omega (arith, list-length n f ts a .1)) (omega (arith, points-few (few-inputs n f ts a .1)))
 
         go : (o : Option Refusal) → firstOf (verifierChecks n f ts bytes) ≡ o → BoundedFields (fieldsOf (elim o [ some q ↦ refused q | none ↦ fault n f ts (products n bytes) ]))
         go (some q) e = let b = verifier-bounds e in record { number = omega arith; refusal = b .number; product = b .product; transition = b .transition; point = b .point }

@@ -103,7 +103,7 @@ module _ (n : ℕ) (f ts : List ℕ) where
   -- What they let through has no more required cubes than the limit,
   rules-few : firstOf (ruleChecks n f ts) ≡ none → length (required n f ts) ≤ mostRequired
   rules-few e =
-      all-few n f ts (bursts-narrow n ts (passes (search entries depth 20))) (inputs-few n (passes (search entries depth 20)) .1) (list-few ts (passes (search entries depth 20)) .2)
+      all-few n f ts (bursts-narrow n ts (passes (search entries depth 20))) (inputs-few n (passes (search entries depth 20)) .1) (list-few ts (passes (search entries depth 20)) .1)
     where
       passes : {o : Option Refusal} → List·Memᴰ o (ruleChecks n f ts) → o ≡ none
       passes = firstOf-none (ruleChecks n f ts) e

@@ -37,6 +37,7 @@ pub mod Blocking
 pub mod Minimal
 pub mod Promise
 pub mod Never
+pub mod Classical
 pub mod Bounds
 -- The set pieces.
 pub mod Essential

@@ -1,9 +1,9 @@
 -- Demand 3 of document 01: what the choice gives, when there is a network at all, and what no product of a minimal network can do without.
-use mathlib.Core.Path.{_≡_}
+use mathlib.Core.Path.{_≡_, refl, sym, ap, _∙_, subst⁻¹}
 use mathlib.Core.Logic.{_↔_, _≢_, inl, inr, ∥∥₁-elim}
 use mathlib.Core.HLevel.{⊥-prop}
 use mathlib.Core.Bool.{not}
-use mathlib.Core.List.{List, [], _∷_, List·Memᴰ, List·Mem, List·Nodup, Pairwise·nil, Pairwise·cons}
+use mathlib.Core.List.{List, [], _∷_, List·Memᴰ, List·Memᴰ·head, List·Memᴰ·tail, List·Memᴰ·cases-cons, List·Mem, List·Nodup, Pairwise·nil, Pairwise·cons}
 use mathlib.Core.Option.{Option, none, some}
 use Prim.Native.Nat.{ℕ, zero, suc, _≤_}
 use native.Mathlib.Omega.{arith}
@@ -50,6 +50,31 @@ irredundant-nodup rs (p ∷ net) h = Pairwise·cons (λ q m. other q m) (irredun
 
     other : (q : Cube) → List·Mem q net → p ≢ q
     other q m e = ∥∥₁-elim m ⊥-prop (λ d. let o = h 0 (omega arith) in o .alone (covered-by (o .cube .cube) d (rw e at (o .mine))))
+
+-- What is left of a list without one entry.
+take-out : {A : Type 0} {a : A} {l : List A} → List·Memᴰ a l → (rest : List A) × (length l ≡ suc (length rest)) × ((b : A) → List·Memᴰ b l → b ≢ a → List·Memᴰ b rest)
+take-out (List·Memᴰ·head {xs = l} e) = (l, refl, λ b m ne. elim (List·Memᴰ·cases-cons m) [ inl d ↦ absurd (ne (d ∙ sym e)) | inr u ↦ u ])
+take-out (List·Memᴰ·tail {x = x} m) =
+    let (rest, e, f) = take-out m in
+    (x ∷ rest, ap suc e, λ b u ne. elim (List·Memᴰ·cases-cons u) [ inl d ↦ List·Memᴰ·head d | inr v ↦ List·Memᴰ·tail (f b v ne) ])
+
+-- Products that each have a required cube of their own are no more than the required cubes.
+pub irredundant-few : (rs : List Required) (net : Network) → Irredundant rs net → length net ≤ length rs
+irredundant-few rs [] h = omega arith
+irredundant-few rs (p ∷ net) h =
+    let o = h 0 (omega arith) in
+    let (rest, e, other) = take-out (o .listed) in
+    omega (arith, irredundant-few rest net (λ j l. tail o rest other j (h (suc j) (omega arith))))
+  where
+    tail : (o : Own rs (p ∷ net) 0) (rest : List Required) → ((r : Required) → List·Memᴰ r rs → r ≢ o .cube → List·Memᴰ r rest) → (j : ℕ) → Own rs (p ∷ net) (suc j) → Own rest net j
+    tail o rest other j q =
+        let c = q .cube .cube in
+        record {
+          cube = q .cube;
+          listed = other (q .cube) (q .listed) (λ e. q .alone (or-l (inside c p) (covered (without j net) c) (subst⁻¹ (λ (r : Required). T (inside (r .cube) p)) e (o .mine))));
+          mine = q .mine;
+          alone = λ t. q .alone (or-r (inside c p) (covered (without j net) c) t);
+        }
 
 module _ (n : ℕ) (f ts : List ℕ) where
   -- No required cube blocks exactly if there is a hazard-free cover.

@@ -55,7 +55,7 @@ module _ (n : ℕ) where
   bytes-number f = search-number (λ x. refusal 3 0 x) (λ x. refl) (first (λ x. ltb 2 (value f x)) 0 (length f))
 
   pub list-number : (ts : List ℕ) → Numbered 4 (listCheck ts)
-  list-number ts = test-number (eqb (length ts) 0 || (eqb (length ts % 2) 1 || ltb 64 (count ts))) 4
+  list-number ts = test-number (eqb (length ts % 2) 1 || ltb 64 (count ts)) 4
 
   pub ends-number : (ts : List ℕ) → Numbered 5 (endsCheck n ts)
   ends-number ts = search-number (λ k. refusal 5 k 0) (λ k. refl) (first (λ k. leb (2 ^ n) (start ts k) || leb (2 ^ n) (end ts k)) 0 (count ts))

@@ -34,15 +34,11 @@ inputs-few n e =
 pub length-whole : (n : ℕ) (f : List ℕ) → lengthCheck n f ≡ none → length f ≡ 2 ^ n
 length-whole n f e = elim (ℕ-discrete (length f) (2 ^ n)) [ yes q ↦ q | no ne ↦ absurd (lets (not (eqb (length f) (2 ^ n))) 2 e (simp tests ne)) ]
 
-pub list-few : (ts : List ℕ) → listCheck ts ≡ none → (1 ≤ length ts) × (length ts % 2 ≡ 0) × (count ts ≤ 64)
+pub list-few : (ts : List ℕ) → listCheck ts ≡ none → (length ts % 2 ≡ 0) × (count ts ≤ 64)
 list-few ts e =
-    let t = no-or (eqb (length ts) 0) (eqb (length ts % 2) 1 || ltb 64 (count ts))
-    (lets (eqb (length ts) 0 || (eqb (length ts % 2) 1 || ltb 64 (count ts))) 4 e) in
-    let u = no-or (eqb (length ts % 2) 1) (ltb 64 (count ts)) (t .1) in
-    let p : length ts ≢ 0 = λ e. t .0 (eqb-of e) in
-    let q : length ts % 2 ≢ 1 = λ e. u .0 (eqb-of e) in
-    let r : ¬ (64 < count ts) = λ l. u .1 (lt→ltb 64 (count ts) l) in
-    (omega arith, omega arith, omega arith)
+    let t = no-or (eqb (length ts % 2) 1) (ltb 64 (count ts)) (lets (eqb (length ts % 2) 1 || ltb 64 (count ts)) 4 e) in
+    let p : length ts % 2 ≢ 1 = λ e. t .0 (eqb-of e) in
+    let q : ¬ (64 < count ts) = λ l. t .1 (lt→ltb 64 (count ts) l) in (omega arith, omega arith)
 
 pub ends-within : (n : ℕ) (ts : List ℕ) → endsCheck n ts ≡ none → (k : ℕ) → k < count ts → (start ts k < 2 ^ n) × (end ts k < 2 ^ n)
 ends-within n ts e k l =
@@ -118,7 +114,7 @@ module _ (n : ℕ) (f ts : List ℕ) (accepted : Accepted n f ts) where
   pub bytes : (x : ℕ) → value f x ≤ 2
   bytes = bytes-few f (passes (search entries depth 20))
 
-  pub list-length : (1 ≤ length ts) × (length ts % 2 ≡ 0) × (count ts ≤ 64)
+  pub list-length : (length ts % 2 ≡ 0) × (count ts ≤ 64)
   list-length = list-few ts (passes (search entries depth 20))
 
   pub points : (k : ℕ) → k < count ts → (start ts k < 2 ^ n) × (end ts k < 2 ^ n)

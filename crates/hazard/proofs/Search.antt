@@ -1,9 +1,9 @@
 -- What the searches find.
 use mathlib.Core.Path.{_≡_, refl, sym, ap, ap₂, _∙_, subst, subst⁻¹}
 use mathlib.Core.Logic.{_↔_, inl, inr, ∥∥₁-elim}
-use mathlib.Core.Bool.{Bool, true, false, _||_}
+use mathlib.Core.Bool.{Bool, true, false, _&&_, _||_}
 use mathlib.Core.List.{List, [], _∷_, _++_, map, List·Memᴰ, List·Memᴰ·head, List·Memᴰ·tail, List·Memᴰ·not-nil, List·Memᴰ·cases-cons, Memᴰ·append-right, Pairwise, Pairwise·nil, Pairwise·cons}
-use mathlib.Core.Option.{Option, none, some}
+use mathlib.Core.Option.{Option, none, some, Option·map}
 use Prim.Native.Nat.{ℕ, zero, suc, _+_, _≤_, _<_}
 use native.Mathlib.Nat.{add-zero}
 use native.Mathlib.Omega.{arith}
@@ -146,6 +146,28 @@ find-none {A} test l = go (find test l) (find-is test l)
     go : (o : Option A) → Find test l o → (o ≡ none) ↔ ((a : A) → List·Memᴰ a l → ¬ T (test a))
     go none (missing h) = (λ e. h, λ k. refl)
     go (some a) (hit m t h) = (λ e. none-some (sym e), λ k. absurd (k a m t))
+
+-- The first of an ascending list of numbers that passes a second test is the lowest number that passes both.
+pub find-those : {A : Type 0} (set : ℕ → Bool) (test : A → Bool) (g : ℕ → A) (from size : ℕ)
+    → find test (map g (those set from size)) ≡ Option·map g (first (λ x. set x && test (g x)) from size)
+find-those set test g from zero = refl
+find-those {A} set test g from (suc size) = go (set from) (find-those set test g (suc from) size)
+  where
+    rest : Option A
+    rest = find test (map g (those set (suc from) size))
+
+    later : Option ℕ
+    later = first (λ x. set x && test (g x)) (suc from) size
+
+    here· : (b : Bool) → rest ≡ Option·map g later → _≡_ {A = Option A} (elim b [ true ↦ some (g from) | false ↦ rest ]) (Option·map g (elim b [ true ↦ some from | false ↦ later ]))
+    here· true h = refl
+    here· false h = h
+
+    go : (b : Bool) → rest ≡ Option·map g later
+        → find test (map g (elim b [ true ↦ from ∷ those set (suc from) size | false ↦ those set (suc from) size ]))
+        ≡ Option·map g (elim (b && test (g from)) [ true ↦ some from | false ↦ later ])
+    go true h = here· (test (g from)) h
+    go false h = h
 
 -- What the lowest number at which a look finds something is.
 pub data Place (look : ℕ → Option ℕ) (from size : ℕ) : Option (ℕ × ℕ) → Type 0 where

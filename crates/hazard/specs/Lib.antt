@@ -14,6 +14,7 @@ pub mod HazardFree
 pub mod Refusal
 pub mod Verdict
 pub mod Minimal
+pub mod Classical
 pub mod Source
 pub mod Piece
 pub mod Pieces

@@ -55,9 +55,9 @@ lengthCheck n f = refuseIf (not (eqb (length f) (2 ^ n))) 2
 abbrev pub bytesCheck : List ℕ → Option Refusal
 bytesCheck f = Option·map (λ x. refusal 3 0 x) (first (λ x. ltb 2 (value f x)) 0 (length f))
 
--- 4: the list is empty, odd, or above 64 transitions.
+-- 4: the list is odd, or above 64 transitions. An empty list is neither.
 abbrev pub listCheck : List ℕ → Option Refusal
-listCheck ts = refuseIf (eqb (length ts) 0 || (eqb (length ts % 2) 1 || ltb 64 (count ts))) 4
+listCheck ts = refuseIf (eqb (length ts % 2) 1 || ltb 64 (count ts)) 4
 
 -- 5: an end that is no point; the first such transition.
 abbrev pub endsCheck : ℕ → List ℕ → Option Refusal

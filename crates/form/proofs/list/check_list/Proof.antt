@@ -12,10 +12,7 @@ use borrow.Author.Needs.{needs}
 use Rattle.form.proofs.list.check_list.Statement.{statement}
 use Rattle.form.proofs.list.check_list.Tie as tie
 
--- The three tests.
-abbrev empty : List ℕ → Bool
-empty l = eqb (length l) 0
-
+-- The two tests.
 abbrev odd : List ℕ → Bool
 odd l = eqb (length l % 2) 1
 
@@ -25,22 +22,17 @@ long l = ltb 64 (count l)
 returns : tie.Need-returns
 returns c =
     let l = c .before .before .before .args .transitions .now in
-    c .refused .ensures ∙ refuse-yes (empty l || (odd l || long l)) 4 (or-l (empty l) (odd l || long l) (eqb-of (c .before .if1 .taken)))
+    c .refused .ensures ∙ refuse-yes (odd l || long l) 4 (or-l (odd l) (long l) (eqb-of (c .before .if1 .taken)))
 
 returns-2 : tie.Need-returns-2
 returns-2 c =
     let l = c .before .before .before .before .args .transitions .now in
-    c .refused2 .ensures ∙ refuse-yes (empty l || (odd l || long l)) 4 (or-r (empty l) (odd l || long l) (or-l (odd l) (long l) (eqb-of (c .before .if2 .taken))))
+    c .refused2 .ensures ∙ refuse-yes (odd l || long l) 4 (or-r (odd l) (long l) (lt→ltb 64 (count l) (omega arith)))
 
 returns-3 : tie.Need-returns-3
 returns-3 c =
-    let l = c .before .before .before .before .before .args .transitions .now in
-    c .refused3 .ensures ∙ refuse-yes (empty l || (odd l || long l)) 4 (or-r (empty l) (odd l || long l) (or-r (odd l) (long l) (lt→ltb 64 (count l) (omega arith))))
-
-returns-4 : tie.Need-returns-4
-returns-4 c =
-    let l = c .before .before .before .before .args .transitions .now in
-    refuse-no (empty l || (odd l || long l)) 4 (neither (empty l) (odd l || long l) (λ t. c .before .before .if1 .left (eqb→eq (length l) 0 t)) (neither (odd l) (long l) (λ t. c .before .if2 .left (eqb→eq (length l % 2) 1 t)) (λ t. omega (arith, ltb→lt 64 (count l) t))))
+    let l = c .before .before .before .args .transitions .now in
+    refuse-no (odd l || long l) 4 (neither (odd l) (long l) (λ t. c .before .if1 .left (eqb→eq (length l % 2) 1 t)) (λ t. omega (arith, ltb→lt 64 (count l) t)))
 
 pub check-list-spec : {M : Type 1} → statement M
-check-list-spec = tie.close (tie.spec (λ c κs. search needs) returns (λ c κs. search needs) returns-2 (λ c κs. search needs) returns-3 returns-4)
+check-list-spec = tie.close (tie.spec (λ c κs. search needs) returns (λ c κs. search needs) returns-2 returns-3)

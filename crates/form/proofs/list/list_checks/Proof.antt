@@ -15,7 +15,7 @@ returns c =
 check-ends-requires : tie.Need-check-ends-requires
 check-ends-requires c κs =
     let s = c .before .before .before .before in
-    (s .pre, list-few (s .args .transitions .now) (passed (c .before .before .check-list .ensures) (c .enum-told .given .1)) .2)
+    (s .pre, list-few (s .args .transitions .now) (passed (c .before .before .check-list .ensures) (c .enum-told .given .1)) .1)
 
 returns-2 : tie.Need-returns-2
 returns-2 c =
@@ -26,7 +26,7 @@ returns-2 c =
 check-bursts-requires : tie.Need-check-bursts-requires
 check-bursts-requires c κs =
     let s = c .before .before .before .before .before .before .before in
-    (s .pre, list-few (s .args .transitions .now) (passed (c .before .before .before .before .before .check-list .ensures) (c .before .before .before .enum-told .given .1)) .2)
+    (s .pre, list-few (s .args .transitions .now) (passed (c .before .before .before .before .before .check-list .ensures) (c .before .before .before .enum-told .given .1)) .1)
 
 returns-3 : tie.Need-returns-3
 returns-3 c =
