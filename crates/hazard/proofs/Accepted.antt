@@ -7,6 +7,22 @@ use lib.ListN.{set, replicate}
 use Rattle.hazard.specs.Search.{firstOf}
 use Rattle.hazard.specs.Refusal.{refusal, inputChecks, Accepted}
 
+-- An empty list is taken. One of odd length is refused; 64 transitions are taken, and 65 refused.
+abbrev ones1 : List ℕ
+ones1 = 1 ∷ 1 ∷ []
+
+pub empty-taken : Accepted 1 ones1 []
+empty-taken = refl
+
+pub odd-refused : firstOf (inputChecks 1 ones1 (0 ∷ [])) ≡ some (refusal 4 0 0)
+odd-refused = refl
+
+pub most-taken : Accepted 1 ones1 (replicate 128 0)
+most-taken = refl
+
+pub more-refused : firstOf (inputChecks 1 ones1 (replicate 130 0)) ≡ some (refusal 4 0 0)
+more-refused = refl
+
 -- A transition of five inputs is taken, on a table of 1s. One of six is refused, and of several the first is named.
 abbrev ones6 : List ℕ
 ones6 = replicate 64 1

@@ -2,13 +2,14 @@
 -- realise the function, and minimal networks are irredundant covers by prime implicants.
 use mathlib.Core.Path.{_≡_, refl, sym, ap, subst, _∙_, fun-ext}
 use mathlib.Core.Logic.{_≢_, _↔_, inl, inr}
-use mathlib.Core.Bool.{Bool, false, not, _&&_, and-true}
+use mathlib.Core.Bool.{Bool, false, not, _&&_, _||_, and-true}
 use mathlib.Core.List.{List, [], _∷_, _++_, List·Memᴰ, List·Memᴰ·not-nil}
 use mathlib.Core.Option.{Option, none, some, Option·map}
-use Prim.Native.Nat.{ℕ, _*_, _^_, _<_}
+use Prim.Native.Nat.{ℕ, _*_, _^_, _≤_, _<_}
+use native.Mathlib.Omega.{arith}
 use native.Mathlib.Nat.{not-suc-le-zero}
 use native.Mathlib.Decide.{ℕ-discrete}
-use lib.Dec.{T, ltb, eqb→eq}
+use lib.Dec.{T, eqb, ltb, eqb→eq, ltb→lt}
 use lib.ListN.{length, length-map, getD, set}
 use Rattle.hazard.specs.Search.{those, firstOf}
 use Rattle.hazard.specs.Cube.{Cube, isProduct, span, inside}
@@ -18,19 +19,20 @@ use Rattle.hazard.specs.Implicant.{dhfImplicant, DhfPrime}
 use Rattle.hazard.specs.Cover.{Network, WellFormed, gives, covered, without, Own, Irredundant}
 use Rattle.hazard.specs.Sequence.{ascending}
 use Rattle.hazard.specs.HazardFree.{HazardFree}
-use Rattle.hazard.specs.Refusal.{Refusal, refuseIf, listChecks, pointsChecks, inputChecks, Accepted}
+use Rattle.hazard.specs.Refusal.{Refusal, refusal, refuseIf, inputsCheck, lengthCheck, bytesCheck, listChecks, pointsChecks, inputChecks, Accepted}
 use Rattle.hazard.specs.Verdict.{networkChecks, verifierChecks, products, Verdict, refused, passed, holdsZero, uncovered, faultA, faultB, firstFault, fault, Verified}
 use Rattle.hazard.specs.Minimal.{roomCheck, blocking, minimiserChecks, Minimal, Minimised, Promise}
 use Rattle.hazard.specs.Classical.{Implicant, PrimeImplicant, Realises, IrredundantCover, on, functionChecks, coverChecks, missed, realisation, ClassicalPromise, ClassicalVerified}
-use Rattle.hazard.proofs.Test.{tests, isnt, so, so-not, eqb-of, bool-ext}
-use Rattle.hazard.proofs.Search.{first-same, place-none, find-those, firstOf-rest, firstOf-as, firstOf-append}
+use Rattle.hazard.proofs.Test.{tests, is, isnt, so, so-not, eqb-of, or-e, bool-ext}
+use Rattle.hazard.proofs.Search.{none-first, first-same, place-none, find-those, firstOf-none, entries, firstOf-rest, firstOf-as, firstOf-append}
 use Rattle.hazard.proofs.Cube.{Digits, Inside, digits→, →digits, has→, →has, inside→, →inside, inside-has, inside-refl, inside-antisym, inside-set, set-digits, set-inside, inside-back, free-set}
 use Rattle.hazard.proofs.Implicant.{Dhf, dhf-is, prime-is}
 use Rattle.hazard.proofs.Sets.{pointAt, point-i, point-e, required-point, required-cases, privileged-wide}
+use Rattle.hazard.proofs.Rules.{inputs-few, length-whole, bytes-few}
 use Rattle.hazard.proofs.Few.{many-never}
 use Rattle.hazard.proofs.Network.{Products, well-formed→, without-member, covered-point}
 use Rattle.hazard.proofs.Verdict.{checked-well-formed}
-use Rattle.hazard.proofs.Minimal.{without-covered, irredundant-few, minimal, minimal-own}
+use Rattle.hazard.proofs.Minimal.{without-covered, minimal, minimal-own}
 use Rattle.hazard.proofs.Blocking.{blocking-transitions}
 
 module _ (n : ℕ) (f : List ℕ) where
@@ -117,8 +119,7 @@ module _ (n : ℕ) (f : List ℕ) where
       },
       h .sequence,
     ),
-    λ h. let own = owns (h .0) in
-        minimal n f [] accepted net (λ p m. dhf-prime-implicant p .1 (h .0 .primes p m)) (covers (h .0)) own (irredundant-few (required n f []) net own) (h .1),
+    λ h. minimal n f [] accepted net (λ p m. dhf-prime-implicant p .1 (h .0 .primes p m)) (covers (h .0)) (own (h .0)) (h .1),
   )
     where
       good : (j : ℕ) → WellFormed n net → Products n (without j net)
@@ -137,8 +138,8 @@ module _ (n : ℕ) (f : List ℕ) where
           let (x, l, v, e) = one-cube r m in
           subst (λ (q : Required). T (covered net (q .cube))) e (covered-point n net (well-formed→ (formed h)) x .1 (so (h .realises .ones x l v)))
 
-      owns : IrredundantCover n f net → Irredundant (required n f []) net
-      owns h j l =
+      own : IrredundantCover n f net → Irredundant (required n f []) net
+      own h j l =
           let (x, k, v, e) = h .irredundant j l in
           let m = cube-one x k v in
           let alone : ¬ T (covered (without j net) (span n x x)) = λ t. so-not e (covered-point n (without j net) (good j (formed h)) x .0 t) in
@@ -147,6 +148,22 @@ module _ (n : ℕ) (f : List ℕ) where
   -- Of the input rules only those of the function can refuse anything,
   pub function-checks : firstOf (inputChecks n f []) ≡ firstOf (functionChecks n f)
   function-checks = many-never n f [] ∙ firstOf-rest (functionChecks n f) (listChecks n [] ++ pointsChecks n f []) refl
+
+  -- which let through exactly a table of 1 to 10 inputs with a value for each point;
+  pub function-taken : (firstOf (functionChecks n f) ≡ none) ↔ ((1 ≤ n) × (n ≤ 10) × (length f ≡ 2 ^ n) × ((x : ℕ) → value f x ≤ 2))
+  function-taken = (
+    λ e. let (low, high) = inputs-few n (passes e (search entries)) in (low, high, length-whole n f (passes e (search entries)), bytes-few f (passes e (search entries))),
+    λ (low, high, whole, values). rw (few low high, ap (λ (b : Bool). refuseIf (not b) 2) (is {b = eqb (length f) (2 ^ n)} (eqb-of whole)), below values),
+  )
+    where
+      passes : {o : Option Refusal} → firstOf (functionChecks n f) ≡ none → List·Memᴰ o (functionChecks n f) → o ≡ none
+      passes e = firstOf-none (functionChecks n f) e
+
+      few : 1 ≤ n → n ≤ 10 → inputsCheck n ≡ none
+      few low high = ap (λ (b : Bool). refuseIf b 1) (isnt (eqb n 0 || ltb 10 n) (λ t. elim (or-e (eqb n 0) (ltb 10 n) t) [ inl u ↦ omega (arith, eqb→eq n 0 u) | inr u ↦ omega (arith, ltb→lt 10 n u) ]))
+
+      below : ((x : ℕ) → value f x ≤ 2) → bytesCheck f ≡ none
+      below values = ap (Option·map (λ x. refusal 3 0 x)) (none-first (λ x. ltb 2 (value f x)) 0 (length f) (λ x l m t. omega (arith, ltb→lt 2 (value f x) t, values x)))
 
   -- and of the minimiser's checks only 9 beside them.
   pub cover-checks : (room : ℕ) → firstOf (minimiserChecks n f [] room) ≡ firstOf (coverChecks n f room)

@@ -4,9 +4,9 @@ use mathlib.Core.Logic.{inl, inr}
 use mathlib.Core.Bool.{Bool, not, _&&_}
 use mathlib.Core.List.{List, [], _∷_, _++_, map, List·Memᴰ, List·Memᴰ·head, Memᴰ·append-left, Memᴰ·append-right, Memᴰ·map, Memᴰ·cast}
 use mathlib.Core.Option.{Option, none, some}
-use Prim.Native.Nat.{ℕ, zero, suc, _+_, _≤_, _<_}
+use Prim.Native.Nat.{ℕ, zero, suc, _≤_, _<_}
 use native.Mathlib.Omega.{arith}
-use lib.Dec.{T, leb, leb→le}
+use lib.Dec.{T}
 use lib.ListN.{length}
 use Rattle.hazard.specs.Search.{found, first, find}
 use Rattle.hazard.specs.Cube.{Cube, isProduct, inside}
@@ -49,7 +49,7 @@ module _ (n : ℕ) (f ts : List ℕ) where
   -- and the products are in sequence.
   abbrev pub essential : Network → Bool
   essential net =
-      (leb (length net) (length (required n f ts)) && not (found (find (λ p. not (dhf p)) net)))
+      not (found (find (λ p. not (dhf p)) net))
       && (not (found (find (λ r. not (found (find (greatest (r .cube)) net))) (required n f ts)))
       && (not (found (first (λ j. not (found (find (owned net j) (required n f ts)))) 0 (length net))) && ascending net))
 
@@ -86,12 +86,12 @@ module _ (n : ℕ) (f ts : List ℕ) (accepted : Accepted n f ts) (net : Network
   Prime p = DhfPrime n (off f) (privileged n f ts) p
 
   -- The parts of the test.
-  parts : (T (leb (length net) (length rs)) × (¬ T (found (find (λ p. not (dhf n f ts p)) net))))
+  parts : (¬ T (found (find (λ p. not (dhf n f ts p)) net)))
       × ((¬ T (found (find (λ (r : Required). not (found (find (greatest n f ts (r .cube)) net))) rs))) × ((¬ T (found (first (λ j. not (found (find (owned n f ts net j) rs))) 0 (length net)))) × T (ascending net)))
   parts = simp (T-and, T-no) at t
 
   dhf-at : (p : Cube) → List·Memᴰ p net → T (isProduct n p) × T (dhfImplicant n (off f) (privileged n f ts) p)
-  dhf-at p m = T-and (isProduct n p) (dhfImplicant n (off f) (privileged n f ts) p) .0 (sure (dhf n f ts p) (lacking (λ q. not (dhf n f ts q)) net (parts .0 .1) p m))
+  dhf-at p m = T-and (isProduct n p) (dhfImplicant n (off f) (privileged n f ts) p) .0 (sure (dhf n f ts p) (lacking (λ q. not (dhf n f ts q)) net (parts .0) p m))
 
   -- The greatest dhf-implicant around a required cube.
   pub record Greatest (r : Required) (p : Cube) : Type 0 where
@@ -140,7 +140,7 @@ module _ (n : ℕ) (f ts : List ℕ) (accepted : Accepted n f ts) (net : Network
   essential-minimal =
       minimal n f ts accepted net (λ p m. let (j, l, e) = place-of m in subst Prime e (prime-at j l))
       (λ r m. let (p, g) = top r m in covered-by (r .cube) (g .member) (g .around))
-      own (leb→le (length net) (length rs) (parts .0 .0)) (parts .1 .1 .1)
+      own (parts .1 .1 .1)
 
   -- A dhf-prime around a required cube is its greatest dhf-implicant.
   prime-top : (r : Required) (p q : Cube) → Greatest r p → Prime q → T (inside (r .cube) q) → q ≡ p

@@ -2,11 +2,12 @@
 use mathlib.Core.Path.{_≡_, refl, sym, subst⁻¹}
 use mathlib.Core.Bool.{true, cond}
 use mathlib.Core.List.{List, [], _∷_, map, List·Memᴰ·eq-of-singleton}
+use mathlib.Core.Option.{none}
 use Prim.Native.Nat.{ℕ}
 use native.Mathlib.Omega.{arith}
 use lib.Dec.{T, leb}
 use lib.ListN.{length}
-use Rattle.hazard.specs.Search.{those}
+use Rattle.hazard.specs.Search.{those, firstOf}
 use Rattle.hazard.specs.Cube.{has, span, distance}
 use Rattle.hazard.specs.Transition.{off}
 use Rattle.hazard.specs.Sets.{Required, required, privileged}
@@ -16,14 +17,17 @@ use Rattle.hazard.specs.Cover.{Network, WellFormed}
 use Rattle.hazard.specs.Sequence.{ascending}
 use Rattle.hazard.specs.HazardFree.{HazardFree}
 use Rattle.hazard.specs.Refusal.{Accepted}
-use Rattle.hazard.specs.Verdict.{products, passed, uncovered, verdict}
+use Rattle.hazard.specs.Verdict.{products, passed, holdsZero, uncovered, verdict}
 use Rattle.hazard.specs.Minimal.{FirstBlocking}
+use Rattle.hazard.specs.Classical.{Implicant, PrimeImplicant, IrredundantCover, coverChecks, realisation, ClassicalVerified}
 use Rattle.hazard.specs.Pieces.{net5}
 use Rattle.hazard.proofs.Search.{none-some}
-use Rattle.hazard.proofs.Verdict.{checked-passed}
+use Rattle.hazard.proofs.Verdict.{checked-passed, verified}
 use Rattle.hazard.proofs.Meaning.{inside-points}
 use Rattle.hazard.proofs.Minimal.{exists-iff}
 use Rattle.hazard.proofs.Promise.{promise-refused}
+use Rattle.hazard.proofs.Classical.{dhf-implicant, minimal-irredundant, verified-classical}
+use Rattle.hazard.proofs.Essential.{essential-minimal}
 
 -- The table and transitions of K4, and of K7.
 abbrev table4 : List ℕ
@@ -121,3 +125,33 @@ ten-required = (refl, refl)
 -- Six inputs would have 64 points, and so more than 32.
 pub six-inputs : (distance 6 0 63 ≡ 6) × (length (those (has (span 6 0 63)) 0 64) ≡ 64)
 six-inputs = (refl, refl)
+
+-- Without transitions K5's network passes, which K4's transition rules out: it realises the function.
+pub no-transition : ClassicalVerified 3 table4 net5 passed × (realisation 3 table4 (products 3 net5) ≡ passed)
+no-transition = (verified-classical 3 table4 (verified 3 table4 [] net5 refl), refl)
+
+-- Exclusive or: 01 and 10 are an irredundant cover. With one of them a 1 is missed; a product that is no implicant comes first.
+abbrev tableX : List ℕ
+tableX = 0 ∷ 1 ∷ 1 ∷ 0 ∷ []
+
+pub exclusive-or : IrredundantCover 2 tableX ((0 ∷ 1 ∷ []) ∷ (1 ∷ 0 ∷ []) ∷ [])
+exclusive-or = minimal-irredundant 2 tableX _ refl .0 (essential-minimal 2 tableX [] refl _ tt) .0
+
+pub one-missed : verdict 2 tableX [] (1 ∷ 0 ∷ []) ≡ uncovered 0 2
+one-missed = refl
+
+pub no-implicant : verdict 2 tableX [] (1 ∷ 0 ∷ 2 ∷ 1 ∷ []) ≡ holdsZero 1 3
+no-implicant = refl
+
+-- An implicant of which a literal can be dropped is not prime: a don't care may be contained.
+pub not-prime : Implicant 2 (2 ∷ 1 ∷ 2 ∷ 2 ∷ []) (1 ∷ 0 ∷ []) × (¬ PrimeImplicant 2 (2 ∷ 1 ∷ 2 ∷ 2 ∷ []) (1 ∷ 0 ∷ []))
+not-prime =
+    let f : List ℕ = 2 ∷ 1 ∷ 2 ∷ 2 ∷ [] in
+    (dhf-implicant 2 f (1 ∷ 0 ∷ []) tt .0 tt, λ h. h .shortest 0 (λ e. omega (arith, e)) (dhf-implicant 2 f (2 ∷ 0 ∷ []) tt .0 tt))
+
+-- A table of don't cares and 0s has no required cube: a buffer of length 0 is long enough, and the network without products is the answer.
+abbrev tableN : List ℕ
+tableN = 0 ∷ 2 ∷ 2 ∷ 0 ∷ []
+
+pub no-product : (firstOf (coverChecks 2 tableN 0) ≡ none) × IrredundantCover 2 tableN []
+no-product = (refl, minimal-irredundant 2 tableN [] refl .0 (essential-minimal 2 tableN [] refl [] tt) .0)

@@ -103,15 +103,15 @@ module _ (n : ℕ) (f ts : List ℕ) where
 
     -- Dhf-primes in sequence that cover every required cube, each with one of its own, meet the whole of demand 3.
     pub minimal : (net : Network) → ((p : Cube) → List·Memᴰ p net → DhfPrime n (off f) (privileged n f ts) p) → ((r : Required) → List·Memᴰ r (required n f ts) → T (covered net (r .cube)))
-        → Irredundant (required n f ts) net → length net ≤ length (required n f ts) → T (ascending net) → Minimal n f ts net
-    minimal net primes covers own few sequence =
+        → Irredundant (required n f ts) net → T (ascending net) → Minimal n f ts net
+    minimal net primes covers own sequence =
         record {
           primes = primes;
           cover = cover;
           hazardFree = cover-hazard-free n f ts net accepted good .0 cover;
           irredundant = λ j l q. let o = own j l in
               o .alone (cover-hazard-free n f ts (without j net) accepted (λ p m. good p (without-member j net m)) .1 q .b (o .cube) (o .listed));
-          few = few;
+          few = irredundant-few (required n f ts) net own;
           maximal = λ p m q w d s.
               let (x, l, i, j) = s .more in
               let u = primes p m .maximal q w d (inside-points n p q (good p m) w .1 (s .within)) in j (inside-points n q p w (good p m) .0 u x l i);

@@ -91,7 +91,7 @@ module _ (n : ℕ) (f ts before : List ℕ) where
             let net = networkIn n (s .words) in
             let size : length net ≡ length (s .words) = length-map (s .words) (cubeIn n) in
             rw (s .size, ← size) (promise-written n f ts before net (checks ∙ e)
-            (minimal n f ts ok net (s .kept .primes) (s .kept .covers) (s .kept .own) (rw size (s .kept .few)) (s .sequence)) (s .is ∙ ap (λ (z : ℕ). bytesOf net ++ drop z before) (mul-comm (length (s .words)) n ∙ ap (λ (z : ℕ). n * z) (sym size))))
+            (minimal n f ts ok net (s .kept .primes) (s .kept .covers) (s .kept .own) (s .sequence)) (s .is ∙ ap (λ (z : ℕ). bytesOf net ++ drop z before) (mul-comm (length (s .words)) n ∙ ap (λ (z : ℕ). n * z) (sym size))))
 
     -- The bytes that are asked for are few.
     pub bytes-few : (count : ℕ) → count ≡ length (sets.required n f ts) → n * count ≤ mostCover

@@ -1,3 +1,4 @@
 pub mod Solving
 pub mod Answering
 pub mod Never
+pub mod Classical
