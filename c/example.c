@@ -1,4 +1,4 @@
-/* Set pieces K2, K4 and K7 through both calls, printed as the program quiet prints them.
+/* Set pieces K2, K4 and K7 and a function without transitions through both calls, printed as the program quiet prints them.
  *
  *   cc -I c c/example.c target/staticlib/libquiet_c.a -o example
  */
@@ -38,5 +38,8 @@ int main(void)
     static const uint8_t k7[] = {0, 2, 1, 1, 1, 2, 1, 0};
     static const uint16_t k7_transitions[] = {2, 7, 6, 0};
     solve(3, k7, k7_transitions, 4);
+
+    /* no transitions, K4's function alone: the length is 0, and the pointer is not null all the same */
+    solve(3, k4, k4_transitions, 0);
     return 0;
 }

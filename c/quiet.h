@@ -4,13 +4,13 @@
  *
  * There are n inputs, 1 to 10, numbered from 0. A point is a number from 0 to 2^n - 1; input i has weight 2^i in it.
  * table:        2^n bytes, one for each point: 0, 1, or 2 for don't care.
- * transitions:  16-bit numbers, two for each transition: start point A, end point B. There are 1 to 64 transitions, and A and B differ in at
- *               most five inputs.
+ * transitions:  16-bit numbers, two for each transition: start point A, end point B. There are 0 to 64 transitions, and A and B differ in at
+ *               most five inputs. With none the problem is the classical one: a network with the table's values is asked for.
  * A product is n bytes, input 0 first: 0 inverted literal, 1 plain literal, 2 absent. A network is its products one after another.
  *
- * Each slice is a pointer and a length in elements. The pointer is not null, also where the length is 0, and points to so many
- * elements, which nothing else writes during the call; cover overlaps no other slice. Nothing else is asked: any such arguments get an
- * answer, and nothing outside the slices is read or written.
+ * Each slice is a pointer and a length in elements. The pointer is not null, also where the length is 0 (an empty list of transitions is
+ * such a slice), and points to so many elements, which nothing else writes during the call; cover overlaps no other slice. Nothing else is
+ * asked: any such arguments get an answer, and nothing outside the slices is read or written.
  */
 #ifndef QUIET_H
 #define QUIET_H
@@ -33,7 +33,7 @@ extern "C" {
  *  1  n is 0 or above 10
  *  2  table length is not 2^n
  *  3  a table byte above 2: the lowest such point
- *  4  transition list empty, odd, or above 64 transitions
+ *  4  transition list odd, or above 64 transitions
  *  5  A or B at least 2^n: the first such transition
  * 14  A and B differ in more than QUIET_MOST_MOVING inputs: the first such transition
  *  6  a 2 in some [A,B]: the first such transition, its lowest such point
@@ -49,7 +49,8 @@ extern "C" {
  */
 
 /* Writes a minimal hazard-free network into cover: it is 1 at every 1 of the table. n * QUIET_MOST_REQUIRED bytes are always enough. The
- * products stand in ascending order of their bytes, compared from input 0 on: a 2, an absent literal, comes after 0 and 1.
+ * products stand in ascending order of their bytes, compared from input 0 on: a 2, an absent literal, comes after 0 and 1. For an empty list
+ * of transitions they are prime implicants of which none can be left out, and refusal 10 never comes.
  *
  * Answer: 256 * the number of products, so bits 0 to 7 are 0; or a refusal:
  *   bits  0 to  7  its number
@@ -69,7 +70,7 @@ uint64_t quiet_minimise(size_t n, const uint8_t *table, size_t table_length, con
  *                  2 (a) the product contains the point, which is a 0 of the table
  *                  3 (c) the product intersects the transition's privileged cube and lacks its start point
  *                  4 (b) the required cube with this transition and label lies in no single product; for a 1 that lies in no [A,B] the
- *                    transition is the number of transitions
+ *                    transition is the number of transitions, so 0 for an empty list: transitions_length / 2 tells it from a transition
  *   bits  8 to 15  the refusal's number
  *   bits 16 to 31  product
  *   bits 32 to 47  transition

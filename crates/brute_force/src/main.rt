@@ -18,19 +18,24 @@ mod wires;
 
 use crate::counts::LEN;
 use crate::report::print;
+use crate::samples::ALL;
+use crate::samples::ALONE;
 
 // How many seeded instances there are of three and of four inputs.
 const THREE: u64 = 100000;
 
 const FOUR: u64 = 150000;
 
-fn all_of_two() {
+fn all_of_two(name: &[u8], from: u64, to: u64) {
     let mut counts = [0u64; LEN];
-    samples::all_of_two(&mut counts);
-    print(
-        b"2 inputs: all tables, all transitions, all sets of products\n",
-        &counts,
-    );
+    samples::all_of_two(from, to, &mut counts);
+    print(name, &counts);
+}
+
+fn tables_of_three() {
+    let mut counts = [0u64; LEN];
+    samples::tables_of_three(&mut counts);
+    print(b"3 inputs: all tables, no transition\n", &counts);
 }
 
 // The number of inputs is the seed.
@@ -41,7 +46,17 @@ fn sampled(name: &[u8], n: u64, most: u64, rounds: u64) {
 }
 
 fn main() {
-    all_of_two();
+    all_of_two(
+        b"2 inputs: all tables, all transitions, all sets of products\n",
+        0,
+        ALONE,
+    );
+    all_of_two(
+        b"2 inputs: all tables, no transition, all sets of products\n",
+        ALONE,
+        ALL,
+    );
+    tables_of_three();
     sampled(b"3 inputs: seeded, up to 5 transitions\n", 3, 5, THREE);
     sampled(b"4 inputs: seeded, up to 8 transitions\n", 4, 8, FOUR);
 }

@@ -1,4 +1,4 @@
-// Instances and networks through both calls: all of two inputs, and seeded samples.
+// Instances and networks through both calls: all of two inputs, all tables of three, and seeded samples.
 use crate::counts::LEN;
 use crate::draw::next;
 use crate::drawn::changed;
@@ -32,12 +32,23 @@ fn tries_all(p: Instance, counts: &mut [u64; LEN]) {
     }
 }
 
-// All 81 tables of two inputs, each with all 16 transitions.
-pub(crate) fn all_of_two(counts: &mut [u64; LEN]) {
-    for code in 0..1296u64 {
-        let pair = code % 16;
-        let p = with_transition(table_with(2, code / 16), pair % 4, pair / 4);
-        tries_all(p, counts);
+// The codes of two inputs: each of 81 tables with each of 16 transitions, and from here on each without one.
+pub const ALONE: u64 = 1296;
+
+pub const ALL: u64 = 1377;
+
+fn with_code(code: u64) -> Instance {
+    if ALONE <= code {
+        return table_with(2, code - ALONE);
+    }
+    let pair = code % 16;
+    with_transition(table_with(2, code / 16), pair % 4, pair / 4)
+}
+
+// The problems of two inputs with these codes.
+pub(crate) fn all_of_two(from: u64, to: u64, counts: &mut [u64; LEN]) {
+    for code in from..to {
+        tries_all(with_code(code), counts);
     }
 }
 
@@ -77,6 +88,15 @@ fn tries(p: Instance, seed: u64, counts: &mut [u64; LEN]) {
             verifies_drawn(p, seed, counts);
             verifies_near(p, net, seed, counts);
         }
+    }
+}
+
+// All 6,561 tables of three inputs, without transitions.
+pub(crate) fn tables_of_three(counts: &mut [u64; LEN]) {
+    let mut s = 3;
+    for code in 0..6561u64 {
+        s = next(s);
+        tries(table_with(3, code), s, counts);
     }
 }
 

@@ -98,6 +98,7 @@ pub fn same_minimise(
                 assert_eq!(kept, Ok(()), "{network:?}, {}", context());
             }
             tally.networks += 1;
+            tally.networks_alone += u64::from(transitions.is_empty());
             tally.products += answer >> 8;
             tally.independent_products += count as u64;
             tally.joining_products += joins as u64;
@@ -126,6 +127,7 @@ pub fn same_verify(tally: &mut Tally, problem: &Problem, network: &[u8]) -> u8 {
     }
     tally.verify += 1;
     tally.verdicts[(answer & 255) as usize] += 1;
+    tally.verdicts_alone[(answer & 255) as usize] += u64::from(transitions.is_empty());
     if let Err(refusal) = expected {
         tally.verify_refusals[usize::from(refusal.number)] += 1;
     }

@@ -14,7 +14,8 @@ fn inputs(rng: &mut Rng) -> usize {
 
 fn transition_count(rng: &mut Rng) -> usize {
     match rng.below(20) {
-        0..=9 => 1 + rng.below(3),
+        0 => 0,
+        1..=9 => 1 + rng.below(3),
         10..=17 => 1 + rng.below(12),
         18 => 1 + rng.below(64),
         _ => 64,
@@ -75,12 +76,12 @@ fn consistent(rng: &mut Rng) -> Problem {
     accepted(rng, &shape)
 }
 
-/// Few transitions and no don't cares: most ones are visited by none.
+/// Few transitions or none, and no don't cares: most ones are visited by none.
 fn plain(rng: &mut Rng) -> Problem {
     let n = inputs(rng);
     let shape = Shape {
         n,
-        transitions: 1 + rng.below(4),
+        transitions: rng.below(5),
         widest: widest(rng, n),
         corners: 1 + rng.below(6),
         dont_cares: 0,

@@ -11,6 +11,9 @@ pub struct Tally {
     pub products: u64,
     pub independent_products: u64,
     pub joining_products: u64,
+    /// of the networks, those for no transition; and of the verdicts
+    pub networks_alone: u64,
+    pub verdicts_alone: [u64; 5],
     /// by number
     pub minimise_refusals: [u64; 15],
     pub verify_refusals: [u64; 15],
@@ -24,7 +27,8 @@ impl Tally {
         self.minimise + self.verify
     }
 
-    /// The refusals and verdicts that no call has met. Refusal 8 never comes, and 13 is the program's.
+    /// The refusals and verdicts that no call has met, and the answers without transitions. Refusal 8 never comes, and 13 is the
+    /// program's; without transitions verdict 3 never comes.
     pub fn never_met(&self) -> Vec<String> {
         let refusals = (1..=7)
             .chain(9..=12)
@@ -34,7 +38,16 @@ impl Tally {
         let verdicts = (0..5)
             .filter(|&k| self.verdicts[k] == 0)
             .map(|k| format!("verdict {k}"));
-        refusals.chain(verdicts).collect()
+        let networks = (self.networks_alone == 0).then(|| "a network for no transition".into());
+        let alone = [0, 1, 2, 4]
+            .into_iter()
+            .filter(|&k| self.verdicts_alone[k] == 0)
+            .map(|k| format!("verdict {k} for no transition"));
+        refusals
+            .chain(verdicts)
+            .chain(networks)
+            .chain(alone)
+            .collect()
     }
 }
 
@@ -42,7 +55,11 @@ impl fmt::Display for Tally {
     fn fmt(&self, f: &mut fmt::Formatter<'_>) -> fmt::Result {
         writeln!(f, "calls            {}", self.calls())?;
         writeln!(f, "  minimise       {}", self.minimise)?;
-        writeln!(f, "    networks     {}", self.networks)?;
+        writeln!(
+            f,
+            "    networks     {} (for no transition: {})",
+            self.networks, self.networks_alone
+        )?;
         writeln!(
             f,
             "    products     {} (independent: {}, joining: {})",
@@ -56,7 +73,11 @@ impl fmt::Display for Tally {
         writeln!(f, "    its steps    {:?}", self.steps)?;
         writeln!(f, "  verify         {}", self.verify)?;
         for (number, count) in self.verdicts.iter().enumerate() {
-            writeln!(f, "    verdict {number:2}   {count}")?;
+            let alone = self.verdicts_alone[number];
+            writeln!(
+                f,
+                "    verdict {number:2}   {count} (for no transition: {alone})"
+            )?;
         }
         for (number, count) in self.verify_refusals.iter().enumerate() {
             if *count > 0 {

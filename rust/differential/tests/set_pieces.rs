@@ -91,6 +91,8 @@ fn edges_of_the_inputs() {
 #[test]
 fn edges_of_the_transitions() {
     let transitions = |count: usize| [0, 1].repeat(count);
+    assert_eq!(minimised(&problem("11", &[])), "2");
+    assert_eq!(minimised(&problem("11", &[0])), "refused 4 0 0 0 0");
     assert_eq!(minimised(&problem("11", &transitions(64))), "2");
     assert_eq!(
         minimised(&problem("11", &transitions(65))),
@@ -150,6 +152,22 @@ fn ones_that_no_transition_visits() {
         minimised(&problem(&"1".repeat(1024), &[0, 0])),
         "2222222222"
     );
+}
+
+#[test]
+fn no_transition() {
+    let k4 = problem("01010011", &[]);
+    assert_eq!(minimised(&k4), "120 211");
+    assert_eq!(verified(&k4, &["120", "211"]), [1, 0, 0, 0, 0]);
+    // transition 0 is their number
+    assert_eq!(verified(&k4, &["120"]), [4, 0, 0, 0, 6]);
+    assert_eq!(verified(&k4, &["120", "212"]), [2, 0, 1, 0, 2]);
+    let k7 = problem("0-11 1-10", &[]);
+    assert_eq!(verified(&k7, &["210", "021"]), [1, 0, 0, 0, 0]);
+    let nothing = problem("0--0", &[]);
+    assert_eq!(minimised(&nothing), "");
+    assert_eq!(verified(&nothing, &[]), [1, 0, 0, 0, 0]);
+    assert_eq!(minimised(&problem(&"1".repeat(1024), &[])), "2222222222");
 }
 
 #[test]

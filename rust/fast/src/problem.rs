@@ -126,7 +126,7 @@ impl Problem {
         if points < 64 {
             zeros[0] &= (1 << points) - 1;
         }
-        if transitions.is_empty() || transitions.len() % 2 == 1 || transitions.len() > 128 {
+        if transitions.len() % 2 == 1 || transitions.len() > 128 {
             return Err(Refusal::new(4));
         }
         let full = (points - 1) as u16;

@@ -1,8 +1,8 @@
 //! A proved minimiser and verifier for hazard-free two-level logic.
 //!
 //! There are n inputs, 1 to 10. A point is a number below 2^n in which input i has weight 2^i. A table has one byte for each point:
-//! 0, 1, or 2 for don't care. A transition is `[start, end]`, two points that differ in at most five inputs. A product is n bytes, input 0
-//! first: 0 for an inverted literal, 1 for a plain one, 2 for none.
+//! 0, 1, or 2 for don't care. A transition is `[start, end]`, two points that differ in at most five inputs; there are 0 to 64 of them.
+//! A product is n bytes, input 0 first: 0 for an inverted literal, 1 for a plain one, 2 for none.
 //!
 //! [`minimise`] writes a hazard-free network in which no product can be dropped and none can be widened, or says why there is none.
 //! [`verify`] passes exactly the hazard-free networks, and else names the first fault. Both are proved for all arguments; this crate
@@ -34,6 +34,18 @@
 //! );
 //! ```
 
+//! With no transition at all the problem is the classical one: the products are prime implicants, none of which can be left out, there
+//! always are some, and [`verify`] passes exactly the networks with the table's values.
+//!
+//! ```
+//! let table = [0, 1, 0, 1, 0, 0, 1, 1];
+//! let products = quiet::products(3, &table, &[])?;
+//! let printed: Vec<String> = products.iter().map(|p| p.to_string()).collect();
+//! assert_eq!(printed, ["1-0", "-11"]);
+//! assert_eq!(quiet::verify(3, &table, &[], &[1, 2, 0, 2, 1, 1])?, quiet::Verdict::Passed);
+//! # Ok::<(), quiet::Refusal>(())
+//! ```
+
 pub mod packed;
 mod product;
 mod refusal;
@@ -62,12 +74,13 @@ pub const MOST_PRODUCTS: usize = 3072;
 ///
 /// The products stand in ascending order of their bytes, compared from input 0 on, so an absent literal (2, printed `-`) comes after both
 /// others. Bytes after the last product keep their contents, and so does the whole buffer after a refusal. The buffer has to have n bytes
-/// for each required cube; each 1 that no transition visits is one.
+/// for each required cube; each 1 that no transition visits is one. With no transition and no 1 in the table it may be empty.
 ///
 /// ```
 /// let mut cover = [9; 6];
 /// assert_eq!(quiet::minimise(2, &[1, 1, 1, 0], &[[0, 3]], &mut cover), Ok(2));
 /// assert_eq!(cover, [0, 2, 2, 0, 9, 9]);
+/// assert_eq!(quiet::minimise(2, &[0, 2, 2, 0], &[], &mut []), Ok(0));
 /// ```
 pub fn minimise(
     n: usize,
@@ -96,7 +109,8 @@ pub fn products(
 }
 
 /// Whether a network, products of n bytes one after another, is hazard-free for the table and the transitions: passed, or the first
-/// fault. A 1 that no transition visits has no transition: where it is left uncovered, their number is named.
+/// fault. A 1 that no transition visits has no transition: where it is left uncovered, their number is named, which is 0 for an empty
+/// list. A caller tells it from a transition by the length of the list.
 ///
 /// ```
 /// use quiet::Verdict;
@@ -108,6 +122,10 @@ pub fn products(
 /// assert_eq!(
 ///     quiet::verify(3, &table, &[[3, 7]], &[1, 1, 2]),
 ///     Ok(Verdict::Uncovered { transition: 1, label: 1 })
+/// );
+/// assert_eq!(
+///     quiet::verify(3, &table, &[], &[1, 2, 0]),
+///     Ok(Verdict::Uncovered { transition: 0, label: 6 })
 /// );
 /// ```
 pub fn verify(

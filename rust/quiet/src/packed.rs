@@ -32,8 +32,8 @@ mod exported {
 
 /// [`crate::minimise`], with its answer packed.
 pub fn minimise(n: usize, table: &[u8], transitions: &[u16], cover: &mut [u8]) -> u64 {
-    // SAFETY: a pointer and a length pass for each slice, of which `cover` alone is written, and Rust lends it to this call only. The
-    // call has no `requires`, keeps no pointer, and is proved to read and write inside the slices.
+    // SAFETY: a pointer and a length pass for each slice, of which `cover` alone is written, and Rust lends it to this call only. An empty
+    // slice's pointer is not null either. The call has no `requires`, keeps no pointer, and is proved to read and write inside the slices.
     unsafe {
         exported::quiet_minimise(
             n,
@@ -49,8 +49,8 @@ pub fn minimise(n: usize, table: &[u8], transitions: &[u16], cover: &mut [u8]) -
 
 /// [`crate::verify`], with its answer packed.
 pub fn verify(n: usize, table: &[u8], transitions: &[u16], network: &[u8]) -> u64 {
-    // SAFETY: a pointer and a length pass for each slice. The call has no `requires`, writes nothing, keeps no pointer, and is proved to
-    // read inside the slices.
+    // SAFETY: a pointer and a length pass for each slice, and an empty slice's pointer is not null either. The call has no `requires`,
+    // writes nothing, keeps no pointer, and is proved to read inside the slices.
     unsafe {
         exported::quiet_verify(
             n,

@@ -17,7 +17,7 @@ pub enum Refusal {
     TableLength,
     /// 3: a table byte above 2, the lowest such point.
     TableByte { point: u16 },
-    /// 4: the list of transitions is empty, odd, or above 64 transitions.
+    /// 4: the list of transitions is odd, or above 64 transitions. An empty one is taken.
     TransitionList,
     /// 5: a start or end point is at least 2^n, in the first such transition.
     EndPoint { transition: u16 },
@@ -108,7 +108,7 @@ impl fmt::Display for Refusal {
             Refusal::TableLength => f.write_str("table length is not 2^n"),
             Refusal::TableByte { point } => write!(f, "a table byte above 2: point {point}"),
             Refusal::TransitionList => {
-                f.write_str("transition list empty, odd, or above 64 transitions")
+                f.write_str("transition list odd, or not of 0 to 64 transitions")
             }
             Refusal::EndPoint { transition } => {
                 write!(f, "A or B at least 2^n: transition {transition}")

@@ -14,7 +14,7 @@ pub enum Verdict {
     /// 3: (c) fails: the product intersects the transition's privileged cube without its start point.
     Intersects { product: u16, transition: u16 },
     /// 4: (b) fails: the required cube of the transition with this label lies in no single product. The number of transitions stands for
-    /// none of them: the label is then a 1 that no transition visits.
+    /// none of them: the label is then a 1 that no transition visits. With an empty list that number is 0.
     Uncovered { transition: u16, label: u16 },
 }
 
