@@ -1,11 +1,11 @@
 -- The order of the input rules, by examples: which of several that apply is the answer.
 use mathlib.Core.Path.{_≡_, refl}
 use mathlib.Core.List.{List, [], _∷_}
-use mathlib.Core.Option.{some}
+use mathlib.Core.Option.{none, some}
 use Prim.Native.Nat.{ℕ}
 use lib.ListN.{set, replicate}
 use Rattle.hazard.specs.Search.{firstOf}
-use Rattle.hazard.specs.Refusal.{refusal, inputChecks, Accepted}
+use Rattle.hazard.specs.Refusal.{refusal, listCheck, inputChecks, Accepted}
 
 -- An empty list is taken. One of odd length is refused; 64 transitions are taken, and 65 refused.
 abbrev ones1 : List ℕ
@@ -17,10 +17,10 @@ empty-taken = refl
 pub odd-refused : firstOf (inputChecks 1 ones1 (0 ∷ [])) ≡ some (refusal 4 0 0)
 odd-refused = refl
 
-pub most-taken : Accepted 1 ones1 (replicate 128 0)
+pub most-taken : listCheck (replicate 128 0) ≡ none
 most-taken = refl
 
-pub more-refused : firstOf (inputChecks 1 ones1 (replicate 130 0)) ≡ some (refusal 4 0 0)
+pub more-refused : listCheck (replicate 130 0) ≡ some (refusal 4 0 0)
 more-refused = refl
 
 -- A transition of five inputs is taken, on a table of 1s. One of six is refused, and of several the first is named.

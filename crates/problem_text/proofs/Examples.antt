@@ -21,6 +21,12 @@ k4-form =
     whole-form k4-text 3 (48 ∷ 49 ∷ 48 ∷ 49 ∷ 48 ∷ 48 ∷ 49 ∷ 49 ∷ 10 ∷ 51 ∷ 32 ∷ 55 ∷ 10 ∷ []) refl (0 ∷ 1 ∷ 0 ∷ 1 ∷ 0 ∷ 0 ∷ 1 ∷ 1 ∷ []) (51 ∷ 32 ∷ 55 ∷ 10 ∷ []) refl (omega arith) (omega arith)
     ((3, 7) ∷ []) refl k4-numbers
 
+-- So is one without a line for a transition: 2, 0110.
+pub function-form : Form (50 ∷ 10 ∷ 48 ∷ 49 ∷ 49 ∷ 48 ∷ 10 ∷ []) 2 (0 ∷ 1 ∷ 1 ∷ 0 ∷ []) []
+function-form =
+    whole-form (50 ∷ 10 ∷ 48 ∷ 49 ∷ 49 ∷ 48 ∷ 10 ∷ []) 2 (48 ∷ 49 ∷ 49 ∷ 48 ∷ 10 ∷ []) refl (0 ∷ 1 ∷ 1 ∷ 0 ∷ []) [] refl (omega arith) (omega arith)
+    [] refl (λ k. omega arith)
+
 -- A number with a leading zero is not: 03.
 pub leading-zero : (rest : List ℕ) → ¬ Formed (48 ∷ 51 ∷ rest)
 leading-zero rest = no-inputs (48 ∷ 51 ∷ rest) refl

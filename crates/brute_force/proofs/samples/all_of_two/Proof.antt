@@ -4,10 +4,10 @@ use Rattle.brute_force.proofs.samples.all_of_two.Statement.{statement}
 use Rattle.brute_force.proofs.samples.all_of_two.Tie as tie
 
 abbrev Inv-loop : tie.InvT-loop
-Inv-loop counts₀ code₀ counts code = code₀ ≤ code
+Inv-loop from to counts₀ code₀ counts code = code₀ ≤ code
 
 abbrev μ-loop : tie.MeasureT-loop
-μ-loop counts₀ code₀ counts code = 1296 - code
+μ-loop from to counts₀ code₀ counts code = to - code
 
 returns : tie.Need-returns Inv-loop μ-loop
 returns c = search needs
