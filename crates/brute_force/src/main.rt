@@ -21,7 +21,9 @@ use crate::report::print;
 use crate::samples::ALL;
 use crate::samples::ALONE;
 
-// How many seeded instances there are of three and of four inputs.
+// How many tables of three inputs there are, and how many seeded instances of three and of four.
+const TABLES: u64 = 6561;
+
 const THREE: u64 = 100000;
 
 const FOUR: u64 = 150000;
@@ -30,12 +32,6 @@ fn all_of_two(name: &[u8], from: u64, to: u64) {
     let mut counts = [0u64; LEN];
     samples::all_of_two(from, to, &mut counts);
     print(name, &counts);
-}
-
-fn tables_of_three() {
-    let mut counts = [0u64; LEN];
-    samples::tables_of_three(&mut counts);
-    print(b"3 inputs: all tables, no transition\n", &counts);
 }
 
 // The number of inputs is the seed.
@@ -56,7 +52,7 @@ fn main() {
         ALONE,
         ALL,
     );
-    tables_of_three();
+    sampled(b"3 inputs: all tables, no transition\n", 3, 0, TABLES);
     sampled(b"3 inputs: seeded, up to 5 transitions\n", 3, 5, THREE);
     sampled(b"4 inputs: seeded, up to 8 transitions\n", 4, 8, FOUR);
 }

@@ -91,20 +91,19 @@ fn tries(p: Instance, seed: u64, counts: &mut [u64; LEN]) {
     }
 }
 
-// All 6,561 tables of three inputs, without transitions.
-pub(crate) fn tables_of_three(counts: &mut [u64; LEN]) {
-    let mut s = 3;
-    for code in 0..6561u64 {
-        s = next(s);
-        tries(table_with(3, code), s, counts);
+// The instance of a round: seeded with up to `most` transitions, or one table after another without any.
+fn in_round(n: u64, most: u64, round: u64, seed: u64) -> Instance {
+    if most == 0 {
+        return table_with(n, round);
     }
+    drawn(n, most, seed)
 }
 
-// Seeded instances of n inputs with up to `most` transitions.
+// Instances of n inputs, with seeded networks.
 pub(crate) fn sample(n: u64, most: u64, rounds: u64, seed: u64, counts: &mut [u64; LEN]) {
     let mut s = seed;
-    for _ in 0..rounds {
+    for round in 0..rounds {
         s = next(s);
-        tries(drawn(n, most, s), s, counts);
+        tries(in_round(n, most, round, s), s, counts);
     }
 }

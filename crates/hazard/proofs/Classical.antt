@@ -19,10 +19,10 @@ use Rattle.hazard.specs.Implicant.{dhfImplicant, DhfPrime}
 use Rattle.hazard.specs.Cover.{Network, WellFormed, gives, covered, without, Own, Irredundant}
 use Rattle.hazard.specs.Sequence.{ascending}
 use Rattle.hazard.specs.HazardFree.{HazardFree}
-use Rattle.hazard.specs.Refusal.{Refusal, refusal, refuseIf, inputsCheck, lengthCheck, bytesCheck, listChecks, pointsChecks, inputChecks, Accepted}
+use Rattle.hazard.specs.Refusal.{Refusal, refusal, refuseIf, inputsCheck, bytesCheck, listChecks, pointsChecks, inputChecks, Accepted}
 use Rattle.hazard.specs.Verdict.{networkChecks, verifierChecks, products, Verdict, refused, passed, holdsZero, uncovered, faultA, faultB, firstFault, fault, Verified}
 use Rattle.hazard.specs.Minimal.{roomCheck, blocking, minimiserChecks, Minimal, Minimised, Promise}
-use Rattle.hazard.specs.Classical.{Implicant, PrimeImplicant, Realises, IrredundantCover, on, functionChecks, coverChecks, missed, realisation, ClassicalPromise, ClassicalVerified}
+use Rattle.hazard.specs.Classical.{Implicant, PrimeImplicant, Realises, IrredundantCover, on, functionChecks, coverChecks, missed, classicalFault, ClassicalPromise, ClassicalVerified}
 use Rattle.hazard.proofs.Test.{tests, is, isnt, so, so-not, eqb-of, or-e, bool-ext}
 use Rattle.hazard.proofs.Search.{none-first, first-same, place-none, find-those, firstOf-none, entries, firstOf-rest, firstOf-as, firstOf-append}
 use Rattle.hazard.proofs.Cube.{Digits, Inside, digits→, →digits, has→, →has, inside→, →inside, inside-has, inside-refl, inside-antisym, inside-set, set-digits, set-inside, inside-back, free-set}
@@ -179,8 +179,8 @@ module _ (n : ℕ) (f : List ℕ) where
   verifier-checks bytes = firstOf-as (inputChecks n f []) (functionChecks n f) (networkChecks n bytes) function-checks
 
   -- Nothing is met illegally, and the first required cube in no product is the lowest 1 missed.
-  pub fault-realisation : (net : Network) → WellFormed n net → fault n f [] net ≡ realisation n f net
-  fault-realisation net w =
+  pub fault-classical : (net : Network) → WellFormed n net → fault n f [] net ≡ classicalFault n f net
+  fault-classical net w =
       ap (λ (c : Option (ℕ × ℕ)). firstFault (faultA n (off f) net) c (faultB (required n f []) net)) (place-none (λ j. none) 0 (length net) .1 (λ j l m. refl))
       ∙ ap (firstFault (faultA n (off f) net) none) left
       ∙ cases (faultA n (off f) net) (missed n f net)
@@ -215,8 +215,7 @@ module _ (n : ℕ) (f : List ℕ) where
   pub verified-classical : {bytes : List ℕ} {v : Verdict} → Verified n f [] bytes v → ClassicalVerified n f bytes v
   verified-classical {bytes} p =
       record {
-        declined = λ q e. p .is ∙ ap judgement (verifier-checks bytes ∙ e);
-        is = λ e. let h = verifier-checks bytes ∙ e in p .is ∙ ap judgement h ∙ fault-realisation (products n bytes) (checked-well-formed n f [] bytes h);
+        is = p .is ∙ same (firstOf (verifierChecks n f [] bytes)) refl ∙ ap judgement (verifier-checks bytes);
         realises = λ e.
             let c = p .hazardFree (verifier-checks bytes ∙ e) in
             let r = hazard-free-realises (products n bytes) in
@@ -224,4 +223,8 @@ module _ (n : ℕ) (f : List ℕ) where
       }
     where
       judgement : Option Refusal → Verdict
-      judgement o = elim o [ some r ↦ refused r | none ↦ fault n f [] (products n bytes) ]
+      judgement o = elim o [ some q ↦ refused q | none ↦ classicalFault n f (products n bytes) ]
+
+      same : (o : Option Refusal) → firstOf (verifierChecks n f [] bytes) ≡ o → _≡_ {A = Verdict} (elim o [ some q ↦ refused q | none ↦ fault n f [] (products n bytes) ]) (judgement o)
+      same (some q) e = refl
+      same none e = fault-classical (products n bytes) (checked-well-formed n f [] bytes e)

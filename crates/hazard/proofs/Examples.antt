@@ -19,7 +19,7 @@ use Rattle.hazard.specs.HazardFree.{HazardFree}
 use Rattle.hazard.specs.Refusal.{Accepted}
 use Rattle.hazard.specs.Verdict.{products, passed, holdsZero, uncovered, verdict}
 use Rattle.hazard.specs.Minimal.{FirstBlocking}
-use Rattle.hazard.specs.Classical.{Implicant, PrimeImplicant, IrredundantCover, coverChecks, realisation, ClassicalVerified}
+use Rattle.hazard.specs.Classical.{Implicant, PrimeImplicant, Realises, IrredundantCover, coverChecks}
 use Rattle.hazard.specs.Pieces.{net5}
 use Rattle.hazard.proofs.Search.{none-some}
 use Rattle.hazard.proofs.Verdict.{checked-passed, verified}
@@ -127,8 +127,8 @@ pub six-inputs : (distance 6 0 63 ≡ 6) × (length (those (has (span 6 0 63)) 0
 six-inputs = (refl, refl)
 
 -- Without transitions K5's network passes, which K4's transition rules out: it realises the function.
-pub no-transition : ClassicalVerified 3 table4 net5 passed × (realisation 3 table4 (products 3 net5) ≡ passed)
-no-transition = (verified-classical 3 table4 (verified 3 table4 [] net5 refl), refl)
+pub no-transition : Realises 3 table4 (products 3 net5)
+no-transition = verified-classical 3 table4 (verified 3 table4 [] net5 refl) .realises refl .0 refl
 
 -- Exclusive or: 01 and 10 are an irredundant cover. With one of them a 1 is missed; a product that is no implicant comes first.
 abbrev tableX : List ℕ

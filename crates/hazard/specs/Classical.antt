@@ -55,8 +55,12 @@ module _ (n : ℕ) (f : List ℕ) where
   missed net = first (λ x. on f x && not (gives net x)) 0 (2 ^ n)
 
   -- The first product that is no implicant, with its lowest 0; else the 1 that is missed, with transition 0; else passed.
-  abbrev pub realisation : Network → Verdict
-  realisation net = elim (faultA n (off f) net) [ some p ↦ holdsZero (p .0) (p .1) | none ↦ elim (missed net) [ some x ↦ uncovered 0 x | none ↦ passed ] ]
+  abbrev pub classicalFault : Network → Verdict
+  classicalFault net = elim (faultA n (off f) net) [ some p ↦ holdsZero (p .0) (p .1) | none ↦ elim (missed net) [ some x ↦ uncovered 0 x | none ↦ passed ] ]
+
+  -- The verdict on a network's bytes.
+  abbrev pub classicalVerdict : List ℕ → Verdict
+  classicalVerdict bytes = elim (firstOf (functionChecks ++ networkChecks n bytes)) [ some q ↦ refused q | none ↦ classicalFault (products n bytes) ]
 
 -- What the minimiser promises where the list is empty: an irredundant cover by prime implicants, in sequence. There always is one.
 pub record ClassicalPromise (n : ℕ) (f before after : List ℕ) (r : Minimised) : Type 0 where
@@ -66,6 +70,5 @@ pub record ClassicalPromise (n : ℕ) (f before after : List ℕ) (r : Minimised
 
 -- What the verifier promises where the list is empty: passed exactly if the network realises the function.
 pub record ClassicalVerified (n : ℕ) (f bytes : List ℕ) (v : Verdict) : Type 0 where
-  pub declined : (q : Refusal) → firstOf (functionChecks n f ++ networkChecks n bytes) ≡ some q → v ≡ refused q
-  pub is : firstOf (functionChecks n f ++ networkChecks n bytes) ≡ none → v ≡ realisation n f (products n bytes)
+  pub is : v ≡ classicalVerdict n f bytes
   pub realises : firstOf (functionChecks n f ++ networkChecks n bytes) ≡ none → (v ≡ passed) ↔ Realises n f (products n bytes)

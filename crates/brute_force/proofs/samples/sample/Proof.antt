@@ -4,10 +4,10 @@ use Rattle.brute_force.proofs.samples.sample.Statement.{statement}
 use Rattle.brute_force.proofs.samples.sample.Tie as tie
 
 abbrev Inv-loop : tie.InvT-loop
-Inv-loop n most rounds seed counts₀ s₀ counter₀ counts s counter = counter₀ ≤ counter
+Inv-loop n most rounds seed counts₀ s₀ round₀ counts s round = round₀ ≤ round
 
 abbrev μ-loop : tie.MeasureT-loop
-μ-loop n most rounds seed counts₀ s₀ counter₀ counts s counter = rounds - counter
+μ-loop n most rounds seed counts₀ s₀ round₀ counts s round = rounds - round
 
 returns : tie.Need-returns Inv-loop μ-loop
 returns c = search needs
