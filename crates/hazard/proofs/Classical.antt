@@ -7,10 +7,11 @@ use mathlib.Core.List.{List, [], _∷_, _++_, List·Memᴰ, List·Memᴰ·not-ni
 use mathlib.Core.Option.{Option, none, some, Option·map}
 use Prim.Native.Nat.{ℕ, _*_, _^_, _≤_, _<_}
 use native.Mathlib.Omega.{arith}
-use native.Mathlib.Nat.{not-suc-le-zero}
+use native.Mathlib.Nat.{not-suc-le-zero, mul-zero}
 use native.Mathlib.Decide.{ℕ-discrete}
 use lib.Dec.{T, eqb, ltb, eqb→eq, ltb→lt}
-use lib.ListN.{length, length-map, getD, set}
+use lib.ListN.{length, length-map, getD, set, drop}
+use borrow.Author.Tests.{le-ltb}
 use Rattle.hazard.specs.Search.{those, firstOf}
 use Rattle.hazard.specs.Cube.{Cube, isProduct, span, inside}
 use Rattle.hazard.specs.Transition.{value, off}
@@ -21,10 +22,11 @@ use Rattle.hazard.specs.Sequence.{ascending}
 use Rattle.hazard.specs.HazardFree.{HazardFree}
 use Rattle.hazard.specs.Refusal.{Refusal, refusal, refuseIf, inputsCheck, bytesCheck, listChecks, pointsChecks, inputChecks, Accepted}
 use Rattle.hazard.specs.Verdict.{networkChecks, verifierChecks, products, Verdict, refused, passed, holdsZero, uncovered, faultA, faultB, firstFault, fault, Verified}
-use Rattle.hazard.specs.Minimal.{roomCheck, blocking, minimiserChecks, Minimal, Minimised, Promise}
+use Rattle.hazard.specs.Minimal.{roomCheck, blocking, minimiserChecks, Minimal, Minimised, written, bytesOf, Promise}
 use Rattle.hazard.specs.Classical.{Implicant, PrimeImplicant, Realises, IrredundantCover, on, functionChecks, coverChecks, missed, classicalFault, ClassicalPromise, ClassicalVerified}
 use Rattle.hazard.proofs.Test.{tests, is, isnt, so, so-not, eqb-of, or-e, bool-ext}
-use Rattle.hazard.proofs.Search.{none-first, first-same, place-none, find-those, firstOf-none, entries, firstOf-rest, firstOf-as, firstOf-append}
+use Rattle.hazard.proofs.Search.{none-first, first-same, place-none, find-those, firstOf-none, entries, firstOf-right, firstOf-rest, firstOf-as, firstOf-append}
+use Rattle.hazard.proofs.Counting.{those-none}
 use Rattle.hazard.proofs.Cube.{Digits, Inside, digits→, →digits, has→, →has, inside→, →inside, inside-has, inside-refl, inside-antisym, inside-set, set-digits, set-inside, inside-back, free-set}
 use Rattle.hazard.proofs.Implicant.{Dhf, dhf-is, prime-is}
 use Rattle.hazard.proofs.Sets.{pointAt, point-i, point-e, required-point, required-cases, privileged-wide}
@@ -36,7 +38,11 @@ use Rattle.hazard.proofs.Minimal.{without-covered, minimal, minimal-own
 use Rattle.hazard.proofs.Blocking.{blocking-transitions}
 
 module _ (n : ℕ) (f : List ℕ) where
-  -- Implicants by digits and points: there are no privileged cubes to intersect.
+  -- There are no privileged cubes to intersect,
+  pub no-privileged : privileged n f [] ≡ []
+  no-privileged = refl
+
+  -- so implicants by digits and points are dhf-implicants.
   implicant-is : (p : Cube) → Implicant n f p ↔ Dhf n (off f) (privileged n f []) p
   implicant-is p = (
     λ h. record {
@@ -210,6 +216,21 @@ module _ (n : ℕ) (f : List ℕ) where
             let (c, s) = minimal-irredundant net (firstOf-append (inputChecks n f []) (roomCheck n f [] (length before) ∷ blocking n f [] ∷ []) .0 h .0) .0 m in
             (net, k, c, s, w);
       }
+
+  -- which for a table without a 1 is no product, into a buffer of any length, also 0,
+  pub minimised-nothing : {before after : List ℕ} {r : Minimised} → Promise n f [] before after r → firstOf (functionChecks n f) ≡ none
+      → ((x : ℕ) → value f x ≢ 1) → (r ≡ written 0) × (after ≡ before)
+  minimised-nothing {before} {after} {r} p e no-one = go (minimised-classical p .network (firstOf-right (functionChecks n f) (refuseIf (ltb (length before) (n * length (those (on f) 0 (2 ^ n)))) 9 ∷ []) e ∙ room))
+    where
+      size : n * length (those (on f) 0 (2 ^ n)) ≡ 0
+      size = rw (those-none (on f) 0 (2 ^ n) (λ x t. no-one x (eqb→eq (value f x) 1 t)), mul-zero n)
+
+      room : firstOf (refuseIf (ltb (length before) (n * length (those (on f) 0 (2 ^ n)))) 9 ∷ []) ≡ none
+      room = ap (λ (b : Bool). firstOf (refuseIf b 9 ∷ [])) (le-ltb (length before) (n * length (those (on f) 0 (2 ^ n))) (omega (arith, size)))
+
+      go : (net : Network) × (r ≡ written (length net)) × IrredundantCover n f net × T (ascending net) × (after ≡ bytesOf net ++ drop (n * length net) before) → (r ≡ written 0) × (after ≡ before)
+      go ([], k, c, s, w) = (k, w ∙ ap (λ (i : ℕ). drop i before) (mul-zero n))
+      go (q ∷ net, k, c, s, w) = let (x, l, v, h) = c .irredundant 0 (omega arith) in absurd (no-one x v)
 
   -- and the verifier's.
   pub verified-classical : {bytes : List ℕ} {v : Verdict} → Verified n f [] bytes v → ClassicalVerified n f bytes v
