@@ -13,4 +13,4 @@ returns : tie.Need-returns Inv-loop μ-loop
 returns c = search needs
 
 pub all-of-two-spec : {M : Type 1} → statement M
-all-of-two-spec = tie.close (tie.spec Inv-loop μ-loop (λ c. search needs) (λ c κs. search needs) (λ c κs. search needs) (λ c κs. search needs) (λ c. search needs) (λ c. search needs) (λ c. search needs) returns)
+all-of-two-spec = tie.close (tie.spec Inv-loop μ-loop (λ c. search needs) (λ c κs. search needs) (λ c κs. search needs) (λ c. search needs) (λ c. search needs) (λ c. search needs) returns)
