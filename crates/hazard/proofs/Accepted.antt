@@ -1,4 +1,4 @@
--- The order of the input rules, by examples: which of several that apply is the answer.
+-- The input rules by examples: where checks 4 and 14 begin to apply, and which of several that apply is the answer.
 use mathlib.Core.Path.{_≡_, refl}
 use mathlib.Core.List.{List, [], _∷_}
 use mathlib.Core.Option.{none, some}
