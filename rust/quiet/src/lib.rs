@@ -34,8 +34,8 @@
 //! );
 //! ```
 
-//! With no transition at all the problem is the classical one: the products are prime implicants, none of which can be left out, there
-//! always are some, and [`verify`] passes exactly the networks with the table's values.
+//! With no transition at all the problem is the classical one: the products are prime implicants, none of which can be left out. There
+//! always is such a network, and [`verify`] passes exactly those with the table's values.
 //!
 //! ```
 //! let table = [0, 1, 0, 1, 0, 0, 1, 1];
