@@ -8,8 +8,8 @@ use Rattle.hazard.specs.Refusal.{Refusal}
 use Rattle.problem_text.specs.Decimal.{decimal}
 use Rattle.problem_text.specs.Form.{newline}
 use Rattle.writing.specs.Output.{products_head, refused_head, field, refusal_text}
-use Rattle.buffer.specs.Wrote.{Wrote}
-use Rattle.buffer.proofs.Wrote.{wrote_then}
+use Rattle.writing.specs.Wrote.{Wrote}
+use Rattle.writing.proofs.Writing.{wrote_then}
 
 -- At most a line of 11 bytes for each required cube.
 pub lines_most : (n count : ℕ) → n ≤ 10 → count ≤ most_required → count * (n + 1) ≤ 11 * most_required

@@ -6,7 +6,7 @@ ghost use Rattle.refusal.specs.Answer.{refusal_of};
 ghost use Rattle.problem_text.specs.Decimal.{decimal};
 ghost use Rattle.problem_text.specs.Form.{newline};
 ghost use Rattle.writing.specs.Output.{products_head, product_lines, most_output, refusal_text};
-ghost use Rattle.buffer.specs.Wrote.{Wrote};
+ghost use Rattle.writing.specs.Wrote.{Wrote};
 
 use hazard::limits::MOST_REQUIRED;
 use refusal::refusal::Refusal;

@@ -35,58 +35,34 @@ pub const SINGLE_POINT: usize = 16;
 
 pub const TOO_WIDE: usize = 17;
 
-// Faults that a run shows, and those that a difference at rest does.
-pub const RUNS: usize = 18;
-
-pub const RISES: usize = 19;
-
-pub const FALLS: usize = 20;
-
-pub const ONE_TO_ONE: usize = 21;
-
-pub const WITHOUT_WIRES: usize = 22;
-
-pub const AT_REST: usize = 23;
-
-// Networks with a wire buffer that is just long enough, and with one a number shorter.
-pub const ROOMS: usize = 24;
-
 // Disagreements: all, and each kind.
-pub const DISAGREEMENTS: usize = 25;
+pub const DISAGREEMENTS: usize = 18;
 
-pub const ACCEPTANCE: usize = 26;
+pub const ACCEPTANCE: usize = 19;
 
-pub const FIELDS_OF_NONE: usize = 27;
+pub const FIELDS_OF_NONE: usize = 20;
 
-pub const HAZARD_FREE_SET: usize = 28;
+pub const HAZARD_FREE_SET: usize = 21;
 
-pub const BUFFER: usize = 29;
+pub const BUFFER: usize = 22;
 
-pub const HAZARD: usize = 30;
+pub const HAZARD: usize = 23;
 
-pub const DROPPABLE: usize = 31;
+pub const DROPPABLE: usize = 24;
 
-pub const INSIDE: usize = 32;
+pub const INSIDE: usize = 25;
 
-pub const PAST_THE_END: usize = 33;
+pub const PAST_THE_END: usize = 26;
 
-pub const NOT_PASSED: usize = 34;
+pub const NOT_PASSED: usize = 27;
 
-pub const OUT_OF_SEQUENCE: usize = 35;
+pub const OUT_OF_SEQUENCE: usize = 28;
 
-pub const VERDICT: usize = 36;
+pub const VERDICT: usize = 29;
 
-pub const FIELDS_OF_FAULT: usize = 37;
+pub const FIELDS_OF_FAULT: usize = 30;
 
-pub const RUN: usize = 38;
-
-pub const PAST_THE_RUN: usize = 39;
-
-pub const DIFFERENCE: usize = 40;
-
-pub const ROOM: usize = 41;
-
-pub const LEN: usize = 42;
+pub const LEN: usize = 31;
 
 // One more. A count stops far above any that comes up.
 pub(crate) fn add(counts: &mut [u64; LEN], which: usize) {

@@ -3,15 +3,15 @@ use crate::bytes::network_from;
 use crate::calls::answer_to;
 use crate::counts::{
     ACCEPTANCE, BUFFER, DROPPABLE, DROPPED, FIELDS_OF_NONE, HAZARD, HAZARD_FREE_SET, INSIDE, LARGE,
-    LEN, MINIMISED, NONE, OUT_OF_SEQUENCE, PAST_THE_END, REFUSED_6, REFUSED_7, STEPS_1, STEPS_2,
-    STEPS_3, UNVISITED, add, expect,
+    LEN, MINIMISED, NONE, NOT_PASSED, OUT_OF_SEQUENCE, PAST_THE_END, REFUSED_6, REFUSED_7, STEPS_1,
+    STEPS_2, STEPS_3, UNVISITED, add, expect,
 };
 use crate::faults::inside_legal;
 use crate::instance::{Instance, first_refused, unvisited};
 use crate::network::{Network, product_at, without};
 use crate::required::blocks_at;
 use crate::trying::some_hazard_free;
-use crate::verifying::{expect_hazard_free, expect_passed, refuses, same_refusal};
+use crate::verifying::{expect_hazard_free, passes, refuses, same_refusal};
 use refusal::refusal::Refusal;
 use selection::minimised::Minimised;
 use testing::marks::{MARK, is_marked};
@@ -56,7 +56,7 @@ fn made(p: Instance, cover: &[u8], count: usize, counts: &mut [u64; LEN]) -> Ans
     minimal(p, net, count, counts);
     let end = bytes_of(n, count, cover);
     expect(counts, PAST_THE_END, is_marked(cover, end));
-    expect_passed(p, &cover[0..end], counts);
+    expect(counts, NOT_PASSED, passes(p, &cover[0..end]));
     expect(counts, OUT_OF_SEQUENCE, in_sequence(n, &cover[0..end]));
     Answer::Made(net)
 }

@@ -35,13 +35,8 @@ fn print_found(c: &[u64; LEN]) -> usize {
         c,
         next,
     );
-    let next = print_line(
-        b"verified: refused #, passed #, product holds a zero #, illegal intersection #, uncovered #, of them single points #\nnetworks with too many wires to try #\n",
-        c,
-        next,
-    );
     print_line(
-        b"runs replayed #, of them at a rise #, at a fall #, from 1 to 1 #, without a wire #; differences at rest #; wire buffers exact and one short #\n",
+        b"verified: refused #, passed #, product holds a zero #, illegal intersection #, uncovered #, of them single points #\nnetworks with too many wires to try #\n",
         c,
         next,
     )
@@ -58,11 +53,7 @@ fn print_disagreements(c: &[u64; LEN], from: usize) {
         c,
         next,
     );
-    print_line(
-        b"  verdict #, fields of a fault #, run #, wires after the run #, difference at rest #, room for wires #\n",
-        c,
-        next,
-    );
+    print_line(b"  verdict #, fields of a fault #\n", c, next);
 }
 
 pub(crate) fn print(name: &[u8], c: &[u64; LEN]) {

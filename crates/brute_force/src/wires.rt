@@ -11,11 +11,6 @@ pub enum Found {
     TooWide,
 }
 
-// The wires that a transition from a to b moves: those of the literals on inputs at which the two differ.
-pub(crate) fn moving_wires(net: Network, a: u64, b: u64) -> u64 {
-    net.care & spread(a ^ b)
-}
-
 // As many wires of one transition are tried.
 const WIDEST: u32 = 24;
 
@@ -66,7 +61,7 @@ fn allowed(p: Instance, net: Network, k: u64) -> Found {
     let b = end(p, k);
     let first = has(p.ones, a);
     let last = has(p.ones, b);
-    let moving = moving_wires(net, a, b);
+    let moving = net.care & spread(a ^ b);
     if output(net, a, 0) != first {
         return Found::Hazard;
     }

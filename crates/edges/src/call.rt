@@ -1,11 +1,11 @@
 // Both calls on a problem, and what is printed of their answers.
 ghost use Rattle.std.specs.Prelude.{◌≤◌, length};
 
-use hazard::limits::{MOST_COVER, MOST_WIRES};
+use hazard::limits::MOST_COVER;
 use selection::minimised::Minimised;
 use testing::calls::{answer, verifies};
 use testing::count::print_count;
-use testing::marks::{MARK, WIRE_MARK, is_marked};
+use testing::marks::{MARK, is_marked};
 use testing::products::{bytes_of, in_sequence, print_products};
 use testing::report::print_refusal;
 
@@ -65,33 +65,11 @@ fn print_answer(n: usize, made: Minimised, cover: &[u8]) -> usize
     }
 }
 
-// As many numbers as any run needs, two for each wire.
-pub(crate) const LONGEST_RUN: usize = 2 * MOST_WIRES;
-
-fn verifies_in_part(
-    n: usize,
-    table: &[u8],
-    list: &[u16],
-    network: &[u8],
-    room: usize,
-    wires: &mut [u16],
-) {
-    if room <= wires.len() {
-        verifies(n, table, list, network, &mut wires[0..room]);
-    }
-}
-
-// The verifier with a wire buffer of this length, which is at most that of the longest run.
-pub(crate) fn verifies_with(n: usize, table: &[u8], list: &[u16], network: &[u8], room: usize) {
-    let mut wires = [WIRE_MARK; LONGEST_RUN];
-    verifies_in_part(n, table, list, network, room, &mut wires);
-}
-
 // The minimiser with this buffer, and the verifier on what it wrote: no products after a refusal.
 fn both_with(n: usize, table: &[u8], list: &[u16], cover: &mut [u8]) {
     let made = answer(n, table, list, cover);
     let end = print_answer(n, made, cover);
-    verifies_with(n, table, list, &cover[0..end], LONGEST_RUN);
+    verifies(n, table, list, &cover[0..end]);
 }
 
 fn both_in_part(n: usize, table: &[u8], list: &[u16], size: usize, cover: &mut [u8]) {

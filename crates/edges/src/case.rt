@@ -1,22 +1,14 @@
 // A case is a line: `NAME: N; TABLE; TRANSITIONS; SIZE` for both calls with a buffer of this size, or `NAME: N; TABLE; TRANSITIONS;
-// = NETWORK; ROOM` for the verifier alone with a wire buffer of this length: as long as any run needs where ROOM is left out. The table,
-// the transitions and the network are runs; the tables L and P have a rule.
-use crate::call::{LONGEST_RUN, both, verifies_with};
+// = NETWORK` for the verifier alone. The table, the transitions and the network are runs; the tables L and P have a rule.
+use crate::call::both;
 use crate::place::{find, number_at, skip};
 use crate::runs::{LONGEST, Read, bytes_into, numbers_into};
 use crate::tables::{Table, fill};
+use testing::calls::verifies;
 
 // The place after a field's end.
 fn next_field(text: &[u8], at: usize) -> usize {
     skip(text, skip(text, at, b';'), b' ')
-}
-
-// The length of the wire buffer, if a field for it follows.
-fn room_at(text: &[u8], from: usize) -> usize {
-    if skip(text, from, b';') == from {
-        return LONGEST_RUN;
-    }
-    number_at(text, next_field(text, from)).value as usize
 }
 
 fn with_network(text: &[u8], from: usize, n: usize, table: &[u8], list: &[u16]) {
@@ -24,7 +16,7 @@ fn with_network(text: &[u8], from: usize, n: usize, table: &[u8], list: &[u16]) 
     let r = bytes_into(text, skip(text, from, b' '), &mut network);
     let count = r.count;
     if count <= LONGEST {
-        verifies_with(n, table, list, &network[0..count], room_at(text, r.at));
+        verifies(n, table, list, &network[0..count]);
     }
 }
 

@@ -28,7 +28,6 @@ pub mod Wire
 pub mod Trace
 pub mod View
 pub mod Moment
-pub mod Pulse
 pub mod Label
 pub mod One
 pub mod Transition
@@ -39,12 +38,9 @@ pub mod Minimal
 pub mod Promise
 pub mod Never
 pub mod Classical
-pub mod Rest
-pub mod Shown
 pub mod Bounds
 -- The set pieces.
 pub mod Essential
 pub mod Pieces
-pub mod Replayed
 pub mod Accepted
 pub mod Examples

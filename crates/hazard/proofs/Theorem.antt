@@ -24,11 +24,6 @@ use Rattle.hazard.proofs.One.{one-required}
 use Rattle.hazard.proofs.Moment.{Runs}
 use Rattle.hazard.proofs.Transition.{Anchored, CoverAt, runs_at, cover_at}
 
--- (a): the network gives 0 at each 0 of the table.
-pub gives-zeros : (n : ℕ) (f : List ℕ) (net : Network) → ((p : Cube) → Memᴰ p net → (x : ℕ) → x < 2 ^ n → T (off f x) → ¬ T (has p x))
-    → (x : ℕ) → x < 2 ^ n → value f x ≡ 0 → gives net x ≡ false
-gives-zeros n f net a x l z = isnt (gives net x) (λ t. let (j, h, u) = gives_e net x t in a (product_at net j) (entry_at net j h) x l (eqb_of z) u)
-
 -- A hazard-free network is so at the visited 1s.
 pub hazard_free-visited : {n : ℕ} {f ts : List ℕ} {net : Network} → HazardFree n f ts net → VisitedHazardFree n f ts net
 hazard_free-visited h = record { zeros = h.zeros; ones = λ k l x m t. h.ones x m; runs = h.runs }
@@ -38,7 +33,7 @@ module _ (n : ℕ) (f ts : List ℕ) (net : Network) (accepted : Accepted n f ts
   good = well_formed→ well
 
   -- No product intersects the privileged cube of transition k illegally exactly if every product that has a point of it contains its start point.
-  pub legal→ : (k : ℕ) → ((j : ℕ) → j < length net → ¬ T (illegal (product_at net j) (privileged_at n f ts k))) → Anchored n (start ts k) (end ts k) net (start_at f ts k)
+  legal→ : (k : ℕ) → ((j : ℕ) → j < length net → ¬ T (illegal (product_at net j) (privileged_at n f ts k))) → Anchored n (start ts k) (end ts k) net (start_at f ts k)
   legal→ k h j l x t u = elim (known (has (product_at net j) (start_at f ts k))) [
     | inl s ↦ s
     | inr s ↦ absurd (h j l (→illegal {v = privileged_at n f ts k} (good j l) (span-digits n (start ts k) (end ts k)) (record {
@@ -58,7 +53,7 @@ module _ (n : ℕ) (f ts : List ℕ) (net : Network) (accepted : Accepted n f ts
   cover→hazard_free h = record { zeros = zeros'; ones = ones'; runs = runs' }
     where
       zeros' : (x : ℕ) → x < 2 ^ n → value f x ≡ 0 → gives net x ≡ false
-      zeros' = gives-zeros n f net h.a
+      zeros' x l z = isnt (gives net x) (λ t. let r = gives_e net x t in h.a (product_at net r.0) (entry_at net r.0 r.1) x l (eqb_of z) r.2)
 
       ones' : (x : ℕ) → x < 2 ^ n → value f x ≡ 1 → gives net x ≡ true
       ones' x l v =

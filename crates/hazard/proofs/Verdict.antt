@@ -4,7 +4,7 @@ use mathlib.Core.Logic.{◌↔◌, ◌⊎◌, inl, inr}
 use mathlib.Core.Bool.{not, ◌&&◌, ◌||◌}
 use mathlib.Core.List.{List, Memᴰ}
 use mathlib.Core.Option.{Option, none, some, map, map-eq-none_iff, some-injective}
-use Prim.Native.Nat.{ℕ, zero, suc, ◌+◌, ◌*◌, ◌/◌, ◌%◌, ◌^◌, ◌≤◌, ◌<◌}
+use Prim.Native.Nat.{ℕ, zero, suc, ◌+◌, ◌/◌, ◌%◌, ◌^◌, ◌≤◌, ◌<◌}
 use native.Mathlib.Omega.{arith}
 use lib.Dec.{T, T_not, eqb, ltb, eqb→eq, lt→ltb}
 use lib.ListN.{length, drop}
@@ -17,12 +17,12 @@ use Rattle.hazard.specs.Implicant.{illegal, lowest_zero}
 use Rattle.hazard.specs.Cover.{Network, product_at, WellFormed, covered, HazardFreeCover}
 use Rattle.hazard.specs.HazardFree.{HazardFree}
 use Rattle.hazard.specs.Refusal.{Refusal, product_refusal, input_checks, Accepted}
-use Rattle.hazard.specs.Verdict.{cut, products, products_check, wires_check, network_checks, verifier_checks, Verdict, refused, passed, holds_zero, intersects, uncovered, fault_a, fault_c, fault_b, first_fault, fault, verdict, Verified, fields_of}
+use Rattle.hazard.specs.Verdict.{cut, products, products_check, network_checks, verifier_checks, Verdict, refused, passed, holds_zero, intersects, uncovered, fault_a, fault_c, fault_b, first_fault, fault, verdict, Verified, fields_of}
 use Rattle.hazard.proofs.Test.{T_and, no_or, sure}
 use Rattle.hazard.proofs.Rules.{lets}
 use Rattle.hazard.proofs.Search.{none-some, first-none, none_first, find_none, place_none, first_of-none, entries, first_of-append, First, lowest, first-is, Find, hit, find-is, Earlier, Place, placed, place_is}
 use Rattle.hazard.proofs.Network.{entry_at, at_places}
-use Rattle.hazard.proofs.Sets.{labels_at, transition_e, point_e, required_cases, privileged_e}
+use Rattle.hazard.proofs.Sets.{labels_at, transition_e, point_e, required_cases}
 use Rattle.hazard.proofs.Theorem.{cover_hazard_free}
 
 -- How many products a network's bytes are cut into.
@@ -136,18 +136,6 @@ module _ (n : ℕ) (f ts : List ℕ) (net : Network) where
       stages none ea pa none ec pc (some r) eb (hit m t h) = cube_named m (T_not (covered net r.cube) t) h ((none-a n f ts net).0 ea) ((none-c n f ts net).0 ec)
       stages none ea pa none ec pc none eb fb = none_named (record { a = (none-a n f ts net).0 ea; b = (none-b n f ts net).0 eb; c = (none-c n f ts net).0 ec })
 
-  -- Verdict 3 names a transition of the list.
-  pub intersects_names : (j k : ℕ) → fault n f ts net ≡ intersects j k → k < count ts
-  intersects_names j k e = go (fault n f ts net) fault_named e
-    where
-      go : (v : Verdict) → Named n f ts net v → v ≡ intersects j k → k < count ts
-      go passed w e = let z : ◌≡◌ {A = ℕ} 0 1 = cc in absurd (omega arith)
-      go (holds_zero i y) w e = let z : ◌≡◌ {A = ℕ} 0 1 = cc in absurd (omega arith)
-      go (uncovered i y) w e = let z : ◌≡◌ {A = ℕ} 0 1 = cc in absurd (omega arith)
-      go (intersects i y) (illegal_named m t u w a c) e =
-          let (h, l, d, g) = privileged_e n f ts t in
-          omega (arith, ap (λ (v : Verdict). (fields_of v).transition) e, ap (λ (v : Privileged). v.transition) g)
-
   -- Verdict 4 names a transition of the list and one of its labels, or the number of transitions and a 1 that none of them visits.
   pub uncovered_names : (k x : ℕ) → fault n f ts net ≡ uncovered k x → ((k < count ts) × Memᴰ x (labels_at n f ts k)) ⊎ ((k ≡ count ts) × (x < 2 ^ n) × T (unvisited n f ts x))
   uncovered_names k x e = go (fault n f ts net) fault_named e
@@ -197,51 +185,41 @@ products_fit n bytes e =
     let h : ¬ (most_products < length bytes / n) = λ l. t.1 (lt→ltb most_products (length bytes / n) l) in
     (eqb→eq (length bytes % n) 0 (sure (eqb (length bytes % n) 0) t.0), omega arith)
 
--- It has no more products than the limit.
-pub products-few : (n : ℕ) (bytes : List ℕ) → products_check n bytes ≡ none → length (products n bytes) ≤ most_products
-products-few n bytes e = omega (arith, products-length n bytes, (products_fit n bytes e).1)
-
--- What check 15 says of what it lets through.
-pub wires-room : (n : ℕ) (bytes : List ℕ) (room : ℕ) → wires_check n bytes room ≡ none → 2 * n * (length bytes / n) ≤ room
-wires-room n bytes room e =
-    let h : ¬ (room < 2 * n * (length bytes / n)) = λ l. lets (ltb room (2 * n * (length bytes / n))) 15 e (lt→ltb room (2 * n * (length bytes / n)) l) in
-    omega arith
-
-module _ (n : ℕ) (f ts bytes : List ℕ) (room : ℕ) where
+module _ (n : ℕ) (f ts bytes : List ℕ) where
   -- The verifier's checks refuse nothing.
   abbrev pub Checked : Type 0
-  Checked = first_of (verifier_checks n f ts bytes room) ≡ none
+  Checked = first_of (verifier_checks n f ts bytes) ≡ none
 
   -- What the verifier's checks let through is an accepted table, with a network.
   pub checked_accepted : Checked → Accepted n f ts
-  checked_accepted e = ((first_of-append (input_checks n f ts) (network_checks n bytes room)).0 e).0
+  checked_accepted e = ((first_of-append (input_checks n f ts) (network_checks n bytes)).0 e).0
 
   pub checked_well_formed : Checked → WellFormed n (products n bytes)
   checked_well_formed e = at_places (λ (p : Cube). T (is_product n p)) (products n bytes) (λ j l.
       sure (is_product n (product_at (products n bytes) j)) (first-none (λ i. not (is_product n (product_at (products n bytes) i))) 0 (length (products n bytes))
       ((map-eq-none_iff (λ i. product_refusal 12 i) (first (λ i. not (is_product n (product_at (products n bytes) i))) 0 (length (products n bytes)))).0
-      (first_of-none (network_checks n bytes room) ((first_of-append (input_checks n f ts) (network_checks n bytes room)).0 e).1 (search entries))) j (omega arith) (omega arith)))
+      (first_of-none (network_checks n bytes) ((first_of-append (input_checks n f ts) (network_checks n bytes)).0 e).1 (search entries))) j (omega arith) (omega arith)))
 
   -- The verdict is `passed` exactly if the checks refuse nothing and the network is hazard-free.
-  pub verdict-passed : (verdict n f ts bytes room ≡ passed) ↔ (Checked × HazardFree n f ts (products n bytes))
+  pub verdict-passed : (verdict n f ts bytes ≡ passed) ↔ (Checked × HazardFree n f ts (products n bytes))
   verdict-passed =
-      let s = judged (first_of (verifier_checks n f ts bytes room)) (fault n f ts (products n bytes)) in
+      let s = judged (first_of (verifier_checks n f ts bytes)) (fault n f ts (products n bytes)) in
       (λ e. ((s.0 e).0, (right (s.0 e).0).0 (s.0 e).1), λ h. s.1 (h.0, (right h.0).1 h.1))
     where
       right : Checked → (fault n f ts (products n bytes) ≡ passed) ↔ HazardFree n f ts (products n bytes)
       right e = passed_hazard_free n f ts (products n bytes) (checked_accepted e) (checked_well_formed e)
 
   -- Of what the checks let through, exactly the hazard-free networks pass.
-  pub checked_passed : Checked → (verdict n f ts bytes room ≡ passed) ↔ HazardFree n f ts (products n bytes)
+  pub checked_passed : Checked → (verdict n f ts bytes ≡ passed) ↔ HazardFree n f ts (products n bytes)
   checked_passed e = (λ p. (verdict-passed.0 p).1, λ h. verdict-passed.1 (e, h))
 
   -- The whole promise, of the definition's verdict.
-  pub verified : {v : Verdict} → v ≡ verdict n f ts bytes room → Verified n f ts bytes room v
+  pub verified : {v : Verdict} → v ≡ verdict n f ts bytes → Verified n f ts bytes v
   verified {v} e =
       record {
         is = e;
         fields = ap fields_of e;
-        covers = λ h. let s = judged (first_of (verifier_checks n f ts bytes room)) (fault n f ts (products n bytes)) in
+        covers = λ h. let s = judged (first_of (verifier_checks n f ts bytes)) (fault n f ts (products n bytes)) in
             let c = fault-passed n f ts (products n bytes) in (λ p. c.0 (s.0 (sym e ∙ p)).1, λ k. e ∙ s.1 (h, c.1 k));
         hazard_free = λ h. let c = checked_passed h in (λ p. c.0 (sym e ∙ p), λ k. e ∙ c.1 k);
       }

@@ -13,8 +13,6 @@ pub mod Run
 pub mod HazardFree
 pub mod Refusal
 pub mod Verdict
-pub mod Shown
-pub mod Pulse
 pub mod Minimal
 pub mod Classical
 pub mod Source

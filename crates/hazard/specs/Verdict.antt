@@ -1,5 +1,5 @@
 -- The verifier's verdict (document 01: the marker's).
-use Rattle.std.specs.Prelude.{◌≡◌, ◌↔◌, Bool, not, ◌||◌, List, [], ◌∷◌, ◌++◌, ℕ, zero, suc, ◌*◌, ◌/◌, ◌%◌, eqb, ltb, length, take, drop}
+use Rattle.std.specs.Prelude.{◌≡◌, ◌↔◌, Bool, not, ◌||◌, List, [], ◌∷◌, ◌++◌, ℕ, zero, suc, ◌/◌, ◌%◌, eqb, ltb, length, take, drop}
 use Rattle.std.proofs.Math.Option.{Option, none, some, map}
 use Rattle.hazard.specs.Limits.{most_products}
 use Rattle.hazard.specs.Search.{first, first_place, find, first_of}
@@ -28,17 +28,13 @@ products_check n bytes = refuse_if (not (eqb (length bytes % n) 0) || ltb most_p
 abbrev pub digits_check : ℕ → Network → Option Refusal
 digits_check n net = map (λ j. product_refusal 12 j) (first (λ j. not (is_product n (product_at net j))) 0 (length net))
 
--- 15: the wire buffer is shorter than two numbers for each input of each product.
-abbrev pub wires_check : ℕ → List ℕ → ℕ → Option Refusal
-wires_check n bytes room = refuse_if (ltb room (2 * n * (length bytes / n))) 15
-
--- The checks of a network, for a wire buffer of room numbers.
-abbrev pub network_checks : ℕ → List ℕ → ℕ → List (Option Refusal)
-network_checks n bytes room = products_check n bytes ∷ digits_check n (products n bytes) ∷ wires_check n bytes room ∷ []
+-- The checks of a network.
+abbrev pub network_checks : ℕ → List ℕ → List (Option Refusal)
+network_checks n bytes = products_check n bytes ∷ digits_check n (products n bytes) ∷ []
 
 -- The verifier's checks, in their order.
-abbrev pub verifier_checks : ℕ → List ℕ → List ℕ → List ℕ → ℕ → List (Option Refusal)
-verifier_checks n f ts bytes room = input_checks n f ts ++ network_checks n bytes room
+abbrev pub verifier_checks : ℕ → List ℕ → List ℕ → List ℕ → List (Option Refusal)
+verifier_checks n f ts bytes = input_checks n f ts ++ network_checks n bytes
 
 -- The verdict, with what it names.
 pub data Verdict : Type 0 where
@@ -75,9 +71,9 @@ first_fault a c b =
 abbrev pub fault : ℕ → List ℕ → List ℕ → Network → Verdict
 fault n f ts net = first_fault (fault_a n (off f) net) (fault_c (privileged n f ts) net) (fault_b (required n f ts) net)
 
--- The verdict on a network's bytes, for a wire buffer of room numbers.
-abbrev pub verdict : ℕ → List ℕ → List ℕ → List ℕ → ℕ → Verdict
-verdict n f ts bytes room = elim (first_of (verifier_checks n f ts bytes room)) [ some r ↦ refused r | none ↦ fault n f ts (products n bytes) ]
+-- The verdict on a network's bytes.
+abbrev pub verdict : ℕ → List ℕ → List ℕ → List ℕ → Verdict
+verdict n f ts bytes = elim (first_of (verifier_checks n f ts bytes)) [ some r ↦ refused r | none ↦ fault n f ts (products n bytes) ]
 
 -- The verdict's number and the fields that go back with it. What a verdict does not name is 0.
 pub record Fields : Type 0 where
@@ -96,12 +92,12 @@ fields_of (intersects j k) = record { number = 3; refusal = 0; product = j; tran
 fields_of (uncovered k x) = record { number = 4; refusal = 0; product = 0; transition = k; point = x }
 
 -- What the verifier promises of its verdict.
-pub record Verified (n : ℕ) (f ts bytes : List ℕ) (room : ℕ) (v : Verdict) : Type 0 where
+pub record Verified (n : ℕ) (f ts bytes : List ℕ) (v : Verdict) : Type 0 where
   -- It is the definition's, for refused input too.
-  pub is : v ≡ verdict n f ts bytes room
+  pub is : v ≡ verdict n f ts bytes
   -- So are its number and fields.
-  pub fields : fields_of v ≡ fields_of (verdict n f ts bytes room)
+  pub fields : fields_of v ≡ fields_of (verdict n f ts bytes)
   -- Where nothing is refused: passed exactly if conditions (a), (b) and (c) hold,
-  pub covers : first_of (verifier_checks n f ts bytes room) ≡ none → (v ≡ passed) ↔ HazardFreeCover n f ts (products n bytes)
+  pub covers : first_of (verifier_checks n f ts bytes) ≡ none → (v ≡ passed) ↔ HazardFreeCover n f ts (products n bytes)
   -- and exactly if the network is hazard-free.
-  pub hazard_free : first_of (verifier_checks n f ts bytes room) ≡ none → (v ≡ passed) ↔ HazardFree n f ts (products n bytes)
+  pub hazard_free : first_of (verifier_checks n f ts bytes) ≡ none → (v ≡ passed) ↔ HazardFree n f ts (products n bytes)

@@ -1,9 +1,9 @@
-// Checks 11 and 12, of the network by itself, and 15, of the buffer for its wires.
+// Checks 11 and 12: the network by itself.
 ghost use Rattle.std.specs.Prelude.{◌≡◌, not, ◌+◌, ◌/◌, ◌≤◌, length, take, drop};
 ghost use Rattle.hazard.specs.Limits.{most_products};
 ghost use Rattle.hazard.specs.Search.{first_of};
 ghost use Rattle.hazard.specs.Cube.{is_product};
-ghost use Rattle.hazard.specs.Verdict.{products, products_check, digits_check, wires_check, network_checks};
+ghost use Rattle.hazard.specs.Verdict.{products, products_check, digits_check, network_checks};
 ghost use Rattle.refusal.specs.Answer.{checked_of};
 
 use hazard::limits::MOST_PRODUCTS;
@@ -57,29 +57,14 @@ pub fn check_digits(n: usize, bytes: &[u8]) -> Checked
     Checked::Accepted
 }
 
-// 15: the wire buffer is shorter than two numbers for each input of each product.
-pub fn check_wires(n: usize, bytes: &[u8], room: usize) -> Checked
-    requires { (1 ≤ n) × (n ≤ 10) × (length bytes.now / n ≤ most_products) }
-    ensures { checked_of result ≡ wires_check n bytes.now room }
-{
-    if room < 2 * n * (bytes.len() / n) {
-        return refused(15, 0, 0);
-    }
-    Checked::Accepted
-}
-
-// All three, for a wire buffer of room numbers.
-pub fn network_checks(n: usize, bytes: &[u8], room: usize) -> Checked
+// Both.
+pub fn network_checks(n: usize, bytes: &[u8]) -> Checked
     requires { (1 ≤ n) × (n ≤ 10) }
-    ensures { checked_of result ≡ first_of (network_checks n bytes.now room) }
+    ensures { checked_of result ≡ first_of (network_checks n bytes.now) }
 {
     let first = check_products(n, bytes);
     let Checked::Accepted = first else {
         return first;
     };
-    let second = check_digits(n, bytes);
-    let Checked::Accepted = second else {
-        return second;
-    };
-    check_wires(n, bytes, room)
+    check_digits(n, bytes)
 }

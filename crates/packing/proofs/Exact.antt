@@ -10,13 +10,11 @@ use lib.ListN.{length}
 use Rattle.hazard.specs.Search.{first_of}
 use Rattle.hazard.specs.Refusal.{Refusal, input_checks, Accepted}
 use Rattle.hazard.specs.Minimal.{room_check, blocking, minimiser_checks, Minimised, written, declined, Promise}
-use Rattle.hazard.specs.Verdict.{products, Fields, fields_of, Verdict, Verified}
-use Rattle.hazard.specs.Shown.{Shown}
+use Rattle.hazard.specs.Verdict.{Fields, fields_of, Verdict, Verified}
 use Rattle.hazard.proofs.Test.{cond_no}
 use Rattle.hazard.proofs.Search.{first_of-append}
 use Rattle.hazard.proofs.Bounds.{minimiser_bounds, minimal_few, verdict_bounds}
-use Rattle.hazard.proofs.Shown.{shown_most}
-use Rattle.packing.specs.Packed.{unpacked_refusal, unpacked_answer, unpacked_verdict, unpacked_wires, RefusalFits, AnswerFits, VerdictFits}
+use Rattle.packing.specs.Packed.{unpacked_refusal, unpacked_answer, unpacked_verdict, RefusalFits, AnswerFits}
 
 -- The low place and the rest of a number.
 low : (m x y : ℕ) → x < m → (x + m * y) % m ≡ x
@@ -68,23 +66,17 @@ written_exact k =
     let h : (256 * k) / 256 ≡ k = omega arith in
     rw (l, h)
 
--- A verdict's fields and the wires in their places.
-abbrev pub packed_fields : Fields → ℕ → ℕ
-packed_fields m k = m.number + 256 * (m.refusal + 256 * (m.product + 65536 * (m.transition + 128 * (m.point + 1024 * k))))
+-- A verdict's fields in their places.
+abbrev pub packed_fields : Fields → ℕ
+packed_fields m = m.number + 256 * (m.refusal + 256 * (m.product + 65536 * (m.transition + 65536 * m.point)))
 
-pub fields_exact : (m : Fields) (k : ℕ) → m.number < 256 → m.refusal < 256 → m.product < 65536 → m.transition < 128 → m.point < 1024
-    → (unpacked_verdict (packed_fields m k) ≡ m) × (unpacked_wires (packed_fields m k) ≡ k)
-fields_exact m k hn hr hp ht hx = (
-  same (low 256 m.number t hn) (rw a (low 256 m.refusal u hr)) (rw (a, b) (low 65536 m.product v hp)) (rw (a, b, c) (low 128 m.transition x ht))
-      (rw (a, b, c, d) (low 1024 m.point k hx)),
-  rw (a, b, c, d) (high 1024 m.point k hx),
-)
+pub fields_exact : (m : Fields) → m.number < 256 → m.refusal < 256 → m.product < 65536 → m.transition < 65536 → unpacked_verdict (packed_fields m) ≡ m
+fields_exact m hn hr hp ht =
+    same (low 256 m.number t hn) (rw a (low 256 m.refusal u hr)) (rw (a, b) (low 65536 m.product v hp))
+    (rw (a, b, c) (low 65536 m.transition m.point ht)) (rw (a, b, c) (high 65536 m.transition m.point ht))
   where
-    x : ℕ
-    x = m.point + 1024 * k
-
     v : ℕ
-    v = m.transition + 128 * x
+    v = m.transition + 65536 * m.point
 
     u : ℕ
     u = m.product + 65536 * v
@@ -92,7 +84,7 @@ fields_exact m k hn hr hp ht hx = (
     t : ℕ
     t = m.refusal + 256 * u
 
-    a : packed_fields m k / 256 ≡ t
+    a : packed_fields m / 256 ≡ t
     a = high 256 m.number t hn
 
     b : t / 256 ≡ u
@@ -100,9 +92,6 @@ fields_exact m k hn hr hp ht hx = (
 
     c : u / 65536 ≡ v
     c = high 65536 m.product v hp
-
-    d : v / 128 ≡ x
-    d = high 128 m.transition x ht
 
     same : {i j k l o : ℕ} → i ≡ m.number → j ≡ m.refusal → k ≡ m.product → l ≡ m.transition → o ≡ m.point
         → ◌≡◌ {A = Fields} (record { number = i; refusal = j; product = k; transition = l; point = o }) m
@@ -124,16 +113,8 @@ module _ {n : ℕ} {f ts : List ℕ} where
           let l : length net < 65536 = omega (arith, minimal_few n f ts a m) in
           subst⁻¹ AnswerFits s l
 
-  -- and so does every verdict, with the wires that are counted.
-  pub verified-fits : {bytes : List ℕ} {room : ℕ} {v : Verdict} → Verified n f ts bytes room v → VerdictFits (fields_of v)
-  verified-fits {bytes} {room} {v} p =
-      let b = verdict_bounds n f ts bytes room in
-      let e = p.fields in
-      record {
-        refusal = omega (arith, b.refusal, ap (λ (m : Fields). m.refusal) e);
-        transition = omega (arith, b.transition, ap (λ (m : Fields). m.transition) e);
-        point = omega (arith, b.point, ap (λ (m : Fields). m.point) e);
-      }
-
-  pub shown-fits : {bytes : List ℕ} {room : ℕ} {v : Verdict} {before after : List ℕ} {size : ℕ} → Verified n f ts bytes room v → Shown f ts (products n bytes) v before after size → size < 32768
-  shown-fits p h = omega (arith, shown_most p h)
+  -- and so does every verdict's refusal.
+  pub verified-fits : {bytes : List ℕ} {v : Verdict} → Verified n f ts bytes v → (fields_of v).refusal < 256
+  verified-fits {bytes} {v} p =
+      let e : (fields_of v).refusal ≡ _ = ap (λ (m : Fields). m.refusal) p.fields in
+      omega (arith, (verdict_bounds n f ts bytes).refusal)

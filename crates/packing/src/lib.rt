@@ -4,7 +4,7 @@ ghost use Rattle.hazard.specs.Verdict.{fields_of};
 ghost use Rattle.refusal.specs.Answer.{refusal_of};
 ghost use Rattle.selection.specs.Answer.{minimised_of};
 ghost use Rattle.conditions.specs.Answer.{verdict_of};
-ghost use Rattle.packing.specs.Packed.{unpacked_refusal, unpacked_answer, unpacked_verdict, unpacked_wires, RefusalFits, AnswerFits, VerdictFits};
+ghost use Rattle.packing.specs.Packed.{unpacked_refusal, unpacked_answer, unpacked_verdict, RefusalFits, AnswerFits};
 
 use conditions::fault::Verdict;
 use refusal::refusal::Refusal;
@@ -32,26 +32,25 @@ pub fn packed_answer(m: Minimised) -> u64
     }
 }
 
-// A verdict's five fields and the wires in their places.
-fn packed(number: u8, refusal: u8, product: u16, transition: u16, point: u16, wires: usize) -> u64
-    requires { (transition < 128) × (point < 1024) × (wires < 32768) }
-    ensures { (unpacked_verdict result ≡ record { number = number; refusal = refusal; product = product; transition = transition; point = point }) × (unpacked_wires result ≡ wires) }
+// A verdict's five fields in their places.
+fn packed(number: u8, refusal: u8, product: u16, transition: u16, point: u16) -> u64
+    ensures { unpacked_verdict result ≡ record { number = number; refusal = refusal; product = product; transition = transition; point = point } }
 {
-    let places = transition as u64 + 128 * (point as u64 + 1024 * (wires as u64));
+    let places = transition as u64 + 65536 * (point as u64);
     let fields = refusal as u64 + 256 * (product as u64 + 65536 * places);
     number as u64 + 256 * fields
 }
 
-// The verifier's verdict, with so many wires.
-pub fn packed_verdict(v: Verdict, wires: usize) -> u64
-    requires { VerdictFits (fields_of (verdict_of v)) × (wires < 32768) }
-    ensures { (unpacked_verdict result ≡ fields_of (verdict_of v)) × (unpacked_wires result ≡ wires) }
+// The verifier's verdict.
+pub fn packed_verdict(v: Verdict) -> u64
+    requires { (fields_of (verdict_of v)).refusal < 256 }
+    ensures { unpacked_verdict result ≡ fields_of (verdict_of v) }
 {
     match v {
-        Verdict::Refused(r) => packed(0, r.number as u8, r.product, r.transition, r.point, wires),
-        Verdict::Passed => packed(1, 0, 0, 0, 0, wires),
-        Verdict::HoldsZero(product, point) => packed(2, 0, product, 0, point, wires),
-        Verdict::Intersects(product, transition) => packed(3, 0, product, transition, 0, wires),
-        Verdict::Uncovered(transition, label) => packed(4, 0, 0, transition, label, wires),
+        Verdict::Refused(r) => packed(0, r.number as u8, r.product, r.transition, r.point),
+        Verdict::Passed => packed(1, 0, 0, 0, 0),
+        Verdict::HoldsZero(product, point) => packed(2, 0, product, 0, point),
+        Verdict::Intersects(product, transition) => packed(3, 0, product, transition, 0),
+        Verdict::Uncovered(transition, label) => packed(4, 0, 0, transition, label),
     }
 }

@@ -19,18 +19,10 @@ pub extern "C" fn quiet_minimise(
     packed_answer(minimise(n, table, transitions, cover))
 }
 
-// verify: its wire buffer, and its verdict packed with the number of wires.
+// verify: its verdict packed.
 #[unsafe(no_mangle)]
-pub extern "C" fn quiet_verify(
-    n: usize,
-    table: &[u8],
-    transitions: &[u16],
-    network: &[u8],
-    wires: &mut [u16],
-) -> u64
-    ensures { ReadVerdict n table.now transitions.now network.now wires.old wires.new result }
+pub extern "C" fn quiet_verify(n: usize, table: &[u8], transitions: &[u16], network: &[u8]) -> u64
+    ensures { ReadVerdict n table.now transitions.now network.now result }
 {
-    let v = verify(n, table, transitions, network, wires);
-    let verdict = v.verdict;
-    packed_verdict(verdict, v.wires)
+    packed_verdict(verify(n, table, transitions, network))
 }

@@ -28,7 +28,7 @@ use Rattle.hazard.proofs.Numbers.{block_number, Numbers, no_more, next, numbers-
 use Rattle.problem_text.specs.Decimal.{decimal}
 use Rattle.problem_text.specs.Form.{newline, cell}
 use Rattle.writing.specs.Output.{products_head, product_lines, network_text, most_output, field, refusal_text}
-use Rattle.buffer.specs.Wrote.{Wrote}
+use Rattle.writing.specs.Wrote.{Wrote}
 use Rattle.quiet_text.specs.Answer.{checks, Printed, Solved}
 use Rattle.problem_text.proofs.Decimal.{spelled-length}
 use Rattle.answer_text.proofs.Replies.{lines_most}

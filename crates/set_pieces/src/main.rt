@@ -2,15 +2,14 @@
 use selection::minimised::Minimised;
 use testing::calls;
 use testing::count::print_count;
-use testing::marks::{MARK, WIRE_MARK};
+use testing::marks::MARK;
 use testing::products::{bytes_of, print_products};
 use testing::report::print_refusal;
 
-// The verifier's verdict on a network, and the run that shows a fault. No network here has more than 32 bytes.
+// The verifier's verdict on a network.
 fn verifies(name: &[u8], n: usize, table: &[u8], transitions: &[u16], network: &[u8]) {
     io::write_all(1, name);
-    let mut wires = [WIRE_MARK; 64];
-    calls::verifies(n, table, transitions, network, &mut wires);
+    calls::verifies(n, table, transitions, network);
 }
 
 // The network in the buffer, and the verifier's verdict on it.

@@ -4,4 +4,3 @@ pub mod count;
 pub mod marks;
 pub mod products;
 pub mod report;
-pub mod wires;

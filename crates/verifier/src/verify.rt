@@ -1,9 +1,8 @@
 // The verifier's call.
-ghost use Rattle.std.specs.Prelude.{◌≡◌, length};
+ghost use Rattle.std.specs.Prelude.{◌≡◌};
+ghost use Rattle.hazard.specs.Refusal.{Accepted};
 ghost use Rattle.hazard.specs.Sets.{required};
-ghost use Rattle.hazard.specs.Verdict.{products, refused, fault, Verified};
-ghost use Rattle.hazard.specs.Shown.{Shown};
-ghost use Rattle.refusal.specs.Answer.{refusal_of};
+ghost use Rattle.hazard.specs.Verdict.{Verified, products};
 ghost use Rattle.context.specs.Context.{off_in, privileged_of, table_in};
 ghost use Rattle.kinds.specs.Ready as kinds;
 ghost use Rattle.legality.specs.Ready.{Ready};
@@ -20,8 +19,6 @@ use context::places::WORDS;
 use hazard::limits::MOST_REQUIRED;
 use network_bytes::check::network_checks;
 use refusal::checked::Checked;
-use refusal::refusal::Refusal;
-use witness::run::show;
 
 // The verdict for a problem with so many required cubes that they are stored anew, in an array that has room for all.
 fn judge_large(n: usize, context: &[u64], transitions: &[u16], network: &[u8]) -> Verdict
@@ -33,8 +30,8 @@ fn judge_large(n: usize, context: &[u64], transitions: &[u16], network: &[u8]) -
     judge(n, context, &required[0..count], network)
 }
 
-// The verdict on a network that is not refused, for a problem that the input rules accept.
-fn judge_problem(
+// Checks 11 and 12, and the verdict, of a network for a problem that the input rules accept.
+fn verify_network(
     n: usize,
     context: &[u64],
     transitions: &[u16],
@@ -42,57 +39,28 @@ fn judge_problem(
     count: usize,
     network: &[u8],
 ) -> Verdict
-    requires { Problem n (table_in n context.now) transitions.now context.now few.now count × Sound n network.now }
-    ensures { verdict_of result ≡ fault n (table_in n context.now) transitions.now (products n network.now) }
+    requires { Accepted n (table_in n context.now) transitions.now × Problem n (table_in n context.now) transitions.now context.now few.now count }
+    ensures { Verified n (table_in n context.now) transitions.now network.now (verdict_of result) }
 {
+    if let Checked::Refused(r) = network_checks(n, network) {
+        return Verdict::Refused(r);
+    }
     if few.len() < count {
         return judge_large(n, context, transitions, network);
     }
     judge(n, context, &few[0..count], network)
 }
 
-// The verdict, and how many wires were written.
-#[derive(Drop)]
-pub struct Verification {
-    pub verdict: Verdict,
-    pub wires: usize,
-}
-
-fn declined(r: Refusal) -> Verification
-    ensures { (verdict_of result.verdict ≡ refused (refusal_of r)) × (result.wires ≡ 0) }
-{
-    Verification {
-        verdict: Verdict::Refused(r),
-        wires: 0,
-    }
-}
-
-// Whether the network is hazard-free for the table and the transitions: a refusal, or passed, or the first fault. The run that shows a
-// fault, if one does, is written into the buffer, and its wires are counted.
-pub fn verify(
-    n: usize,
-    table: &[u8],
-    transitions: &[u16],
-    network: &[u8],
-    wires: &mut [u16],
-) -> Verification
-    ensures { Verified n table.now transitions.now network.now (length wires.old) (verdict_of result.verdict)
-        × Shown table.now transitions.now (products n network.now) (verdict_of result.verdict) wires.old wires.new result.wires }
+// Whether the network is hazard-free for the table and the transitions: a refusal, or passed, or the first fault.
+pub fn verify(n: usize, table: &[u8], transitions: &[u16], network: &[u8]) -> Verdict
+    ensures { Verified n table.now transitions.now network.now (verdict_of result) }
 {
     let mut context = [0u64; WORDS];
     let mut few = [0u64; FEW];
     match check(n, table, transitions, &mut context, &mut few) {
-        Counted::Refused(r) => declined(r),
+        Counted::Refused(r) => Verdict::Refused(r),
         Counted::Accepted(count) => {
-            if let Checked::Refused(r) = network_checks(n, network, wires.len()) {
-                return declined(r);
-            }
-            let verdict = judge_problem(n, &context, transitions, &few, count, network);
-            let size = show(n, &context, transitions, network, verdict, wires);
-            Verification {
-                verdict,
-                wires: size,
-            }
+            verify_network(n, &context, transitions, &few, count, network)
         }
     }
 }

@@ -11,8 +11,8 @@ use Rattle.hazard.specs.Cover.{Network}
 use Rattle.hazard.specs.Verdict.{cut}
 use Rattle.problem_text.specs.Form.{newline, cell}
 use Rattle.writing.specs.Output.{product_lines}
-use Rattle.buffer.specs.Wrote.{Wrote}
-use Rattle.buffer.proofs.Wrote.{wrote_none, wrote_then, wrote_long}
+use Rattle.writing.specs.Wrote.{Wrote}
+use Rattle.writing.proofs.Writing.{wrote_none, wrote_then, wrote_long}
 
 -- A digit from 2 on is shown as -.
 pub cell_two : (d : ℕ) → 2 ≤ d → 45 ≡ cell d

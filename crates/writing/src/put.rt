@@ -2,10 +2,10 @@
 ghost use Rattle.std.specs.Prelude.{◌∷◌, [], ◌++◌, map, ◌+◌, ◌*◌, ◌^◌, ◌≤◌, ◌<◌, ◌≡◌, length};
 ghost use Rattle.hazard.specs.Limits.{most_required};
 ghost use Rattle.hazard.specs.Verdict.{cut};
-ghost use Rattle.buffer.specs.Wrote.{Wrote};
 ghost use Rattle.problem_text.specs.Decimal.{decimal, spelled};
 ghost use Rattle.problem_text.specs.Form.{newline, cell};
 ghost use Rattle.writing.specs.Output.{field, product_lines};
+ghost use Rattle.writing.specs.Wrote.{Wrote};
 
 pub fn put_bytes(bytes: &[u8], out: &mut [u8], at: usize) -> usize
     requires { at + length bytes.now ≤ length out.old }

@@ -1,7 +1,5 @@
 //! One call of each kind, compared.
 
-use crate::shown::Shown;
-use crate::wrapper::{same_refusal, same_verdict};
 use crate::Tally;
 use fast::promise;
 use problems::{Problem, Rng};
@@ -16,9 +14,9 @@ fn packed_refusal(r: &fast::Refusal) -> u64 {
 }
 
 /// The verifier's answer, packed by the stated definition.
-fn packed_verdict(answer: &Result<(fast::Verdict, u16), fast::Refusal>) -> u64 {
+fn packed_verdict(answer: &Result<fast::Verdict, fast::Refusal>) -> u64 {
     use fast::Verdict::*;
-    let (verdict, refusal, product, transition, point) = match answer.map(|(verdict, _)| verdict) {
+    let (verdict, refusal, product, transition, point) = match *answer {
         Err(r) => (0, r.number, r.product, r.transition, r.point),
         Ok(Passed) => (1, 0, 0, 0, 0),
         Ok(HoldsZero { product, point }) => (2, 0, product, 0, point),
@@ -28,13 +26,11 @@ fn packed_verdict(answer: &Result<(fast::Verdict, u16), fast::Refusal>) -> u64 {
         }) => (3, 0, product, transition, 0),
         Ok(Uncovered { transition, label }) => (4, 0, 0, transition, label),
     };
-    let wires = answer.map_or(0, |(_, wires)| wires);
     verdict
         + (u64::from(refusal) << 8)
         + (u64::from(product) << 16)
         + (u64::from(transition) << 32)
-        + (u64::from(point) << 39)
-        + (u64::from(wires) << 49)
+        + (u64::from(point) << 48)
 }
 
 /// Both minimisers on one problem and a buffer of some length. Returns the proved one's network, if there is one.
@@ -111,53 +107,57 @@ pub fn same_minimise(
     }
 }
 
-/// Numbers that no wire has, and that differ from place to place, so that every write is seen.
-fn marks(rng: &mut Rng, length: usize) -> Vec<u16> {
-    let first = rng.next() as usize;
-    (0..length)
-        .map(|place| first.wrapping_add(place) as u16 | 0x8000)
-        .collect()
-}
-
-/// Both verifiers on one problem, a network and a wire buffer of some length. Returns the verdict's number.
-///
-/// The answer has to be the same in every field, also in the number of wires, which all runs of a transition have in common. Which run is
-/// written is free, so each is replayed. The numbers after it, all where there is none, have to be as they were.
-pub fn same_verify(
-    rng: &mut Rng,
-    tally: &mut Tally,
-    problem: &Problem,
-    network: &[u8],
-    length: usize,
-) -> u8 {
+/// Both verifiers on one problem and a network. Returns the verdict's number.
+pub fn same_verify(tally: &mut Tally, problem: &Problem, network: &[u8]) -> u8 {
     let Problem {
         n,
         table,
         transitions,
     } = problem;
-    let before = marks(rng, length);
-    let (mut wires, mut own) = (before.clone(), before.clone());
-    let answer = quiet::packed::verify(*n, table, transitions, network, &mut wires);
-    let expected = fast::verify(*n, table, transitions, network, &mut own);
-    let context = || format!("verify {network:?}, {length} numbers, {problem:?}");
+    let answer = quiet::packed::verify(*n, table, transitions, network);
+    let expected = fast::verify(*n, table, transitions, network);
+    let context = || format!("verify {network:?}, {problem:?}");
     assert_eq!(answer, packed_verdict(&expected), "{}", context());
-    let shown = expected.map_or(Shown::Nothing, |(v, _)| Shown::of(problem, v));
-    let written = 2 * (answer >> 49) as usize;
-    for (whose, buffer) in [("proved", &wires), ("independent", &own)] {
-        let (run, rest) = buffer.split_at(written);
-        assert_eq!(rest, &before[written..], "{whose}, {}", context());
-        let checked = shown.check(problem, network, run);
-        assert_eq!(checked, Ok(()), "{whose}, {}", context());
-    }
     if let (pairs, []) = transitions.as_chunks::<2>() {
-        same_verdict(problem, pairs, network);
+        match (quiet::verify(*n, table, pairs, network), expected) {
+            (Ok(v), Ok(_)) => assert_eq!(u64::from(v.number()), answer & 255),
+            (Err(refusal), Err(expected)) => same_refusal(refusal, expected),
+            _ => panic!("{}", context()),
+        }
     }
     tally.verify += 1;
     tally.verdicts[(answer & 255) as usize] += 1;
     tally.verdicts_alone[(answer & 255) as usize] += u64::from(transitions.is_empty());
-    tally.count_shown(shown, written);
     if let Err(refusal) = expected {
         tally.verify_refusals[usize::from(refusal.number)] += 1;
     }
     (answer & 255) as u8
+}
+
+/// The wrapper's refusal against the independent one.
+fn same_refusal(refusal: quiet::Refusal, expected: fast::Refusal) {
+    use quiet::Refusal::*;
+    let mut named = fast::Refusal {
+        number: refusal.number(),
+        ..Default::default()
+    };
+    match refusal {
+        TableByte { point } => named.point = point,
+        EndPoint { transition } | Burst { transition } => named.transition = transition,
+        DontCare { transition, point } | Rule { transition, point } => {
+            (named.transition, named.point) = (transition, point);
+        }
+        Blocked {
+            transition,
+            label,
+            steps,
+            lowest_zero,
+        } => {
+            (named.transition, named.point) = (transition, label);
+            (named.steps, named.lowest) = (steps, lowest_zero);
+        }
+        NetworkByte { product } => named.product = product,
+        _ => {}
+    }
+    assert_eq!(named, expected);
 }

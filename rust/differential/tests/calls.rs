@@ -21,14 +21,12 @@ fn both_agree() {
             made = same_minimise(&mut rng, &mut tally, &problem, length).or(made);
         }
         if let Some(network) = &made {
-            let length = arguments::wires_needed(problem.n, network);
-            let verdict = same_verify(&mut rng, &mut tally, &problem, network, length);
+            let verdict = same_verify(&mut tally, &problem, network);
             assert_eq!(verdict, 1, "{network:?}, {problem:?}");
         }
         for _ in 0..3 {
             let network = arguments::network(&mut rng, &problem, made.as_deref());
-            let length = arguments::wires_length(&mut rng, &problem, &network);
-            same_verify(&mut rng, &mut tally, &problem, &network, length);
+            same_verify(&mut tally, &problem, &network);
         }
     }
     println!("seed {seed}\n{tally}");

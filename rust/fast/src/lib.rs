@@ -17,7 +17,6 @@ mod primes;
 mod problem;
 pub mod promise;
 mod refusal;
-mod run;
 mod verify;
 
 pub use minimise::{minimise, minimise_joining};

@@ -6,7 +6,6 @@ use crate::legal::Legal;
 use crate::planes::planes;
 use crate::problem::{Problem, Required};
 use crate::refusal::Refusal;
-use crate::run::Run;
 
 pub const MOST_PRODUCTS: usize = 3072;
 
@@ -89,63 +88,40 @@ fn covered(n: usize, blocks: &[Block], r: &Required) -> bool {
     blocks.iter().any(|b| b.covers(&cells[..n]))
 }
 
-/// Whether the network is hazard-free: a refusal, or passed, or the first fault; and the number of wires of the run that shows the fault,
-/// which is written into the buffer, two numbers for each wire, product and input. It is 0 where there is no run.
+/// Whether the network is hazard-free: a refusal, or passed, or the first fault.
 pub fn verify(
     n: usize,
     table: &[u8],
     transitions: &[u16],
     network: &[u8],
-    wires: &mut [u16],
-) -> Result<(Verdict, u16), Refusal> {
+) -> Result<Verdict, Refusal> {
     let problem = Problem::read(n, table, transitions)?;
     let products = products_of(n, network)?;
-    if wires.len() < 2 * n * products.len() {
-        return Err(Refusal::new(15));
-    }
-    let verdict = fault(n, &problem, &products);
-    let run = match verdict {
-        Verdict::Intersects { transition, .. } | Verdict::Uncovered { transition, .. } => {
-            Run::of(&products, transitions, transition)
-        }
-        _ => None,
-    };
-    let one = |point: u16| table[usize::from(point)] == 1;
-    let count = match (verdict, run) {
-        (Verdict::Intersects { product, .. }, Some(run)) => run.pulse(product, one(run.a), wires),
-        (Verdict::Uncovered { .. }, Some(run)) if one(run.a) && one(run.b) => run.gap(wires),
-        _ => 0,
-    };
-    Ok((verdict, count))
-}
-
-/// Passed, or the first fault.
-fn fault(n: usize, problem: &Problem, products: &[Cube]) -> Verdict {
-    let legal = Legal::new(problem);
+    let legal = Legal::new(&problem);
     for (j, &product) in products.iter().enumerate() {
         if let Some(point) = legal.lowest_zero(product) {
-            return Verdict::HoldsZero {
+            return Ok(Verdict::HoldsZero {
                 product: j as u16,
                 point,
-            };
+            });
         }
     }
     for (j, &product) in products.iter().enumerate() {
         let illegal = legal.illegal(product);
         if illegal != 0 {
-            return Verdict::Intersects {
+            return Ok(Verdict::Intersects {
                 product: j as u16,
                 transition: problem.privileged[illegal.trailing_zeros() as usize].transition,
-            };
+            });
         }
     }
     let blocks: Vec<Block> = products.chunks(64).map(Block::new).collect();
     let unmet = problem.required.iter().find(|r| !covered(n, &blocks, r));
-    match unmet {
+    Ok(match unmet {
         Some(r) => Verdict::Uncovered {
             transition: r.transition,
             label: r.label,
         },
         None => Verdict::Passed,
-    }
+    })
 }

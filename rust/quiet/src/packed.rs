@@ -4,7 +4,7 @@
 //! |---|---|---|
 //! | [`minimise`] | products | 0 to 7: 0; 8 to 63: how many |
 //! | [`minimise`] | refusal | 0 to 7: its number; 8 to 23: transition; 24 to 39: label or point; 40 to 47: steps; 48 to 63: lowest zero |
-//! | [`verify`] | verdict | 0 to 7: 0 refused, 1 passed, 2, 3, 4 the condition that fails; 8 to 15: the refusal's number; 16 to 31: product; 32 to 38: transition; 39 to 48: label or point; 49 to 63: how many wires |
+//! | [`verify`] | verdict | 0 to 7: 0 refused, 1 passed, 2, 3, 4 the condition that fails; 8 to 15: the refusal's number; 16 to 31: product; 32 to 47: transition; 48 to 63: label or point |
 
 mod exported {
     extern "C" {
@@ -26,8 +26,6 @@ mod exported {
             transitions_length: usize,
             network: *const u8,
             network_length: usize,
-            wires: *mut u16,
-            wires_length: usize,
         ) -> u64;
     }
 }
@@ -49,18 +47,10 @@ pub fn minimise(n: usize, table: &[u8], transitions: &[u16], cover: &mut [u8]) -
     }
 }
 
-/// [`crate::verify`], with its answer packed, and the run written into `wires`: a product and an input for each wire.
-///
-/// A buffer shorter than 2 × n × products numbers is refused. Numbers after the last wire keep their contents.
-pub fn verify(
-    n: usize,
-    table: &[u8],
-    transitions: &[u16],
-    network: &[u8],
-    wires: &mut [u16],
-) -> u64 {
-    // SAFETY: a pointer and a length pass for each slice, of which `wires` alone is written, and Rust lends it to this call only. An empty
-    // slice's pointer is not null either. The call has no `requires`, keeps no pointer, and is proved to read and write inside the slices.
+/// [`crate::verify`], with its answer packed.
+pub fn verify(n: usize, table: &[u8], transitions: &[u16], network: &[u8]) -> u64 {
+    // SAFETY: a pointer and a length pass for each slice, and an empty slice's pointer is not null either. The call has no `requires`,
+    // writes nothing, keeps no pointer, and is proved to read inside the slices.
     unsafe {
         exported::quiet_verify(
             n,
@@ -70,8 +60,6 @@ pub fn verify(
             transitions.len(),
             network.as_ptr(),
             network.len(),
-            wires.as_mut_ptr(),
-            wires.len(),
         )
     }
 }

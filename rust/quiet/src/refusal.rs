@@ -42,13 +42,10 @@ pub enum Refusal {
     NetworkLength,
     /// 12: verifier: a byte above 2 in the network, in the first such product.
     NetworkByte { product: u16 },
-    /// 15: verifier: the wire buffer has fewer than 2 × n × products numbers. [`verify`](crate::verify) has a buffer of its own, which is
-    /// long enough; [`packed::verify`](crate::packed::verify) is lent one.
-    WireBuffer,
 }
 
 impl Refusal {
-    /// Its number, 1 to 15.
+    /// Its number, 1 to 14.
     pub fn number(&self) -> u8 {
         match self {
             Refusal::Inputs => 1,
@@ -63,7 +60,6 @@ impl Refusal {
             Refusal::Blocked { .. } => 10,
             Refusal::NetworkLength => 11,
             Refusal::NetworkByte { .. } => 12,
-            Refusal::WireBuffer => 15,
         }
     }
 
@@ -99,7 +95,6 @@ impl Refusal {
             9 => Refusal::Buffer,
             11 => Refusal::NetworkLength,
             12 => Refusal::NetworkByte { product },
-            15 => Refusal::WireBuffer,
             _ => unreachable!("the calls give no other refusal"),
         }
     }
@@ -143,7 +138,6 @@ impl fmt::Display for Refusal {
             Refusal::NetworkByte { product } => {
                 write!(f, "a network byte above 2: product {product}")
             }
-            Refusal::WireBuffer => f.write_str("wire buffer shorter than 2 × n × products"),
         }
     }
 }

@@ -1,37 +1,21 @@
 //! Verdicts.
 
 use crate::packed::field;
-use crate::{Refusal, Transition, Wire};
+use crate::Refusal;
 use std::fmt;
 
 /// What the verifier finds. Conditions are tried in the order (a), (c), (b), and the first fault is given.
-///
-/// A fault comes with what shows it: a run, or a point where table and network differ at rest. A run has every moving wire once, those of
-/// the inputs in which the transition's ends differ. Its outputs, before the first wire moves and after each, are not those that the
-/// transition's kind allows: from 1 to 1 only 1s, else one or more of the first value and then one or more of the last. Which such run it
-/// is, is free.
-#[derive(Clone, Debug, PartialEq, Eq, Hash)]
+#[derive(Clone, Copy, Debug, PartialEq, Eq, Hash)]
 pub enum Verdict {
     /// 1: the network is hazard-free.
     Passed,
-    /// 2: (a) fails: the product contains a point of the OFF-set. At rest there the table is 0, and the network 1.
+    /// 2: (a) fails: the product contains a point of the OFF-set.
     HoldsZero { product: u16, point: u16 },
     /// 3: (c) fails: the product intersects the transition's privileged cube without its start point.
-    Intersects {
-        product: u16,
-        transition: u16,
-        run: Vec<Wire>,
-    },
+    Intersects { product: u16, transition: u16 },
     /// 4: (b) fails: the required cube of the transition with this label lies in no single product. The number of transitions stands for
     /// none of them: the label is then a 1 that no transition visits. With an empty list that number is 0.
-    ///
-    /// A transition of the list from 1 to 1 has a run, which is empty where no wire moves: its one output is 0. Everything else has none: at
-    /// rest at the label the table is 1, and the network 0.
-    Uncovered {
-        transition: u16,
-        label: u16,
-        run: Option<Vec<Wire>>,
-    },
+    Uncovered { transition: u16, label: u16 },
 }
 
 impl Verdict {
@@ -45,17 +29,11 @@ impl Verdict {
         }
     }
 
-    /// The verifier's answer for a table and transitions, unpacked, with the run from the buffer that it wrote into.
-    pub(crate) fn unpacked(
-        answer: u64,
-        table: &[u8],
-        transitions: &[Transition],
-        wires: &[u16],
-    ) -> Result<Verdict, Refusal> {
+    /// The verifier's answer, unpacked.
+    pub(crate) fn unpacked(answer: u64) -> Result<Verdict, Refusal> {
         let product = field(answer, 16, 16);
-        let transition = field(answer, 32, 7);
-        let point = field(answer, 39, 10);
-        let run = || Wire::from_numbers(&wires[..2 * usize::from(field(answer, 49, 15))]);
+        let transition = field(answer, 32, 16);
+        let point = field(answer, 48, 16);
         match field(answer, 0, 8) {
             0 => Err(Refusal::named(
                 field(answer, 8, 8),
@@ -68,23 +46,14 @@ impl Verdict {
             3 => Ok(Verdict::Intersects {
                 product,
                 transition,
-                run: run(),
             }),
             4 => Ok(Verdict::Uncovered {
                 transition,
                 label: point,
-                run: stays_one(table, transitions, transition).then(run),
             }),
             _ => unreachable!("the call gives no other verdict"),
         }
     }
-}
-
-/// Whether it is a transition of the list, and goes from 1 to 1.
-fn stays_one(table: &[u8], transitions: &[Transition], transition: u16) -> bool {
-    transitions
-        .get(usize::from(transition))
-        .is_some_and(|ends| ends.iter().all(|&end| table[usize::from(end)] == 1))
 }
 
 impl fmt::Display for Verdict {
@@ -97,14 +66,11 @@ impl fmt::Display for Verdict {
             Verdict::Intersects {
                 product,
                 transition,
-                ..
             } => write!(
                 f,
                 "(c): product {product} intersects the privileged cube of transition {transition} illegally"
             ),
-            Verdict::Uncovered {
-                transition, label, ..
-            } => write!(
+            Verdict::Uncovered { transition, label } => write!(
                 f,
                 "(b): the required cube of transition {transition} with label {label} lies in no product"
             ),

@@ -6,7 +6,7 @@ use Rattle.packing.proofs.packed.Tie as tie
 returns : tie.Need-returns
 returns c =
     let a = c.args in
-    fields_exact (record { number = a.number; refusal = a.refusal; product = a.product; transition = a.transition; point = a.point }) a.wires (search rules) (search rules) (search rules) c.requires.0 c.requires.1
+    fields_exact (record { number = a.number; refusal = a.refusal; product = a.product; transition = a.transition; point = a.point }) (search rules) (search rules) (search rules) (search rules)
 
 pub packed-spec : {M : Type 1} → statement M
-packed-spec = tie.close (tie.spec (λ c. search rules) (λ c. search rules) (λ c. search rules) (λ c. search rules) (λ c. search rules) (λ c. search rules) (λ c. search rules) (λ c. search rules) (λ c. search rules) (λ c. search rules) returns)
+packed-spec = tie.close (tie.spec (λ c. search rules) (λ c. search rules) (λ c. search rules) (λ c. search rules) (λ c. search rules) (λ c. search rules) (λ c. search rules) (λ c. search rules) returns)

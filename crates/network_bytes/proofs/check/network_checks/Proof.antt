@@ -1,6 +1,6 @@
 use mathlib.Core.Path.{◌∙◌, sym}
 use mathlib.Core.List.{[], ◌∷◌}
-use Rattle.hazard.specs.Verdict.{products, products_check, digits_check, wires_check}
+use Rattle.hazard.specs.Verdict.{products, products_check, digits_check}
 use Rattle.hazard.proofs.Verdict.{products_fit}
 use Rattle.refusal.proofs.Checks.{passed, run_stays, run_passed, alone}
 use borrow.Author.Rules.{rules}
@@ -10,7 +10,7 @@ use Rattle.network_bytes.proofs.check.network_checks.Tie as tie
 returns : tie.Need-returns
 returns c =
     let a = c.before.before.before.before.args in
-    run_stays (products_check a.n a.bytes.now ∷ []) (alone c.before.before.check-products.ensures) (digits_check a.n (products a.n a.bytes.now) ∷ wires_check a.n a.bytes.now a.room ∷ []) c.enum-told2.given.1
+    run_stays (products_check a.n a.bytes.now ∷ []) (alone c.before.before.check-products.ensures) (digits_check a.n (products a.n a.bytes.now) ∷ []) c.enum-told2.given.1
 
 check-digits-requires : tie.Need-check-digits-requires
 check-digits-requires c κs =
@@ -19,21 +19,8 @@ check-digits-requires c κs =
 
 returns-2 : tie.Need-returns-2
 returns-2 c =
-    let a = c.before.before.before.before.before.before.before.args in
-    run_stays (digits_check a.n (products a.n a.bytes.now) ∷ []) (alone c.before.before.check-digits.ensures) (wires_check a.n a.bytes.now a.room ∷ []) c.enum-told4.given.1
-    ∙ sym (run_passed (products_check a.n a.bytes.now ∷ []) (alone c.before.before.before.before.before.check-products.ensures) (digits_check a.n (products a.n a.bytes.now) ∷ wires_check a.n a.bytes.now a.room ∷ []) c.before.before.before.enum_told.given.1)
-
-check-wires-requires : tie.Need-check-wires-requires
-check-wires-requires c κs =
-    let s = c.before.before.before.before.before.before.before in
-    (s.requires.0, s.requires.1, (products_fit s.args.n s.args.bytes.now (passed c.before.before.before.before.before.check-products.ensures c.before.before.before.enum_told.given.1)).1)
-
-returns-3 : tie.Need-returns-3
-returns-3 c =
-    let a = c.before.before.before.before.before.before.before.before.args in
-    alone c.check-wires.ensures
-    ∙ sym (run_passed (products_check a.n a.bytes.now ∷ []) (alone c.before.before.before.before.before.before.check-products.ensures) (digits_check a.n (products a.n a.bytes.now) ∷ wires_check a.n a.bytes.now a.room ∷ []) c.before.before.before.before.enum_told.given.1
-    ∙ run_passed (digits_check a.n (products a.n a.bytes.now) ∷ []) (alone c.before.before.before.check-digits.ensures) (wires_check a.n a.bytes.now a.room ∷ []) c.before.enum-told3.given.1)
+    let a = c.before.before.before.before.before.args in
+    alone c.check-digits.ensures ∙ sym (run_passed (products_check a.n a.bytes.now ∷ []) (alone c.before.before.before.check-products.ensures) (digits_check a.n (products a.n a.bytes.now) ∷ []) c.before.enum_told.given.1)
 
 pub network-checks-spec : {M : Type 1} → statement M
-network-checks-spec = tie.close (tie.spec (λ c κs. search rules) (λ c. search rules) (λ c. search rules) returns check-digits-requires (λ c. search rules) (λ c. search rules) returns-2 check-wires-requires returns-3)
+network-checks-spec = tie.close (tie.spec (λ c κs. search rules) (λ c. search rules) (λ c. search rules) returns check-digits-requires returns-2)

@@ -3,7 +3,7 @@ use native.Mathlib.Omega.{arith}
 use borrow.Author.Rules.{rules}
 use Rattle.hazard.specs.Refusal.{Refusal, refusal}
 use Rattle.writing.specs.Output.{refusal_text}
-use Rattle.buffer.specs.Wrote.{Wrote}
+use Rattle.writing.specs.Wrote.{Wrote}
 use Rattle.problem_text.specs.Read.{Reading}
 use Rattle.quiet_text.proofs.Solving.{printed-from, refusal-length}
 use Rattle.quiet_text.proofs.Answering.{replied_malformed, replied_solved, table-within, list_within}

@@ -1,6 +1,6 @@
 use native.Mathlib.Omega.{arith}
 use borrow.Author.Rules.{rules}
-use Rattle.buffer.proofs.Wrote.{wrote_one, wrote_then}
+use Rattle.writing.proofs.Writing.{wrote_byte, wrote_then}
 use Rattle.problem_text.proofs.Decimal.{spelled-one, spelled-more, tens_below, two_digits, spelled-length}
 use Prim.Native.Nat.{ℕ, ◌+◌, ◌-◌, ◌/◌, ◌%◌, ◌<◌}
 use borrow.Fn.Kinds.{In}
@@ -62,7 +62,7 @@ put-digits-returns :
     put-digits.Post
 put-digits-returns t c =
     let s = c.before.before in
-    rw (spelled-one s.args.k s.args.x s.requires.1.0 (omega arith)) (wrote_one s.args.out.now s.args.at (48 + s.args.x % 10))
+    rw (spelled-one s.args.k s.args.x s.requires.1.0 (omega arith)) (wrote_byte s.args.out.now s.args.at (48 + s.args.x % 10))
 
 put-digits-sub-put-digits : (t : ℕ) → put-digits-lts.Need-overflow-sub-put-digits (
   put-digits-below t,
@@ -107,7 +107,7 @@ put-digits-returns-2 : (t : ℕ) → put-digits-lts.Need-returns-2 (
 ) (put-digits-at t) put-digits.Post
 put-digits-returns-2 t c =
     let s = c.before.before.before.before.before.before in
-    rw (spelled-more s.args.k s.args.x (omega arith) (omega arith)) (wrote_then c.before.before.put-digits.ensures (wrote_one _ _ _))
+    rw (spelled-more s.args.k s.args.x (omega arith) (omega arith)) (wrote_then c.before.before.put-digits.ensures (wrote_byte _ _ _))
 
 pub +put-digits-spec : {M : Type 1} → statement M
 +put-digits-spec = close μ-put-digits λ t. put-digits-lts.spec (

@@ -1,8 +1,7 @@
 use native.Mathlib.Omega.{arith}
 use lib.ListN.{length-set}
 use borrow.Author.Rules.{rules}
-use Rattle.buffer.proofs.Wrote.{wrote_one, wrote_then}
-use Rattle.writing.proofs.Writing.{field_next}
+use Rattle.writing.proofs.Writing.{wrote_byte, wrote_then, field_next}
 use Rattle.writing.proofs.put.put_field.Statement.{statement}
 use Rattle.writing.proofs.put.put_field.Tie as tie
 
@@ -15,7 +14,7 @@ same_length c = simp length-set at c.before.before.put-number.auto.1.0
 returns : tie.Need-returns
 returns c =
     let a = c.before.before.before.before.before.args in
-    let w = wrote_then (wrote_one _ _ _) c.before.before.put-number.ensures in
+    let w = wrote_then (wrote_byte _ _ _) c.before.before.put-number.ensures in
     (w, field_next a.x w)
 
 pub put-field-spec : {M : Type 1} → statement M

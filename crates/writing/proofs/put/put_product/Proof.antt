@@ -5,8 +5,7 @@ use native.Mathlib.Omega.{arith}
 use lib.ListN.{length, length-map, get_or-map}
 use borrow.Author.Rules.{rules}
 use Rattle.problem_text.specs.Form.{cell}
-use Rattle.buffer.proofs.Wrote.{wrote_one, wrote_then}
-use Rattle.writing.proofs.Writing.{Writing, writing_start, writing_step, writing_end}
+use Rattle.writing.proofs.Writing.{Writing, writing_start, writing_step, writing_end, wrote_byte, wrote_then}
 use Rattle.writing.proofs.put.put_product.Statement.{statement}
 use Rattle.writing.proofs.put.put_product.Tie as tie
 
@@ -31,7 +30,7 @@ returns c =
     let s = c.before.before.before.before in
     let l = c.before.loop in
     let all : length (map cell s.args.product.now) ≤ l.i = rw length-map (omega arith) in
-    wrote_then (writing_end l.invariant.1 all) (wrote_one _ _ _)
+    wrote_then (writing_end l.invariant.1 all) (wrote_byte _ _ _)
 
 pub put-product-spec : {M : Type 1} → statement M
 put-product-spec = tie.close (tie.spec invariant-loop decreases-loop loop-holds (λ c. search rules) (λ c κs. search rules) (λ c. search rules) (λ c. search rules) (λ c. search rules) (λ c. search rules) loop-again (λ c. search rules) (λ c. search rules) (λ c. search rules) (λ c. search rules) (λ c. search rules) returns)

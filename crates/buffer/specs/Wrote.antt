@@ -1,8 +1,0 @@
--- Numbers written into a buffer from a place on.
-use Rattle.std.specs.Prelude.{◌≡◌, List, ℕ, ◌+◌, length}
-use Rattle.std.proofs.lemmas.List.Edits.{sets}
-
--- The numbers stand from the place on, the rest is as before, and the next place is the one after them.
-pub record Wrote (before : List ℕ) (at : ℕ) (numbers after : List ℕ) (next : ℕ) : Type 0 where
-  pub is : after ≡ sets before at numbers
-  pub place : next ≡ at + length numbers

@@ -1,4 +1,0 @@
-pub mod Moving
-pub mod Ahead
-pub mod Phases
-pub mod Shows

@@ -1,5 +1,0 @@
-// The run that shows a fault: which it is, and its wires written.
-pub mod phase;
-pub mod pulse;
-pub mod run;
-pub mod write;
