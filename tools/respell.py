@@ -3,7 +3,7 @@
 
 usage: python3 tools/respell.py [ROOT]
 
-Run it once, right after the toolchain's port.py, on the same tree. tools/respell.tsv has a row for each name: old, a tab, new.
+Run it once, right after the toolchain's port.py, on the same tree; a second run stops, since two rows give a name that a third has turned. tools/respell.tsv has a row for each name: old, a tab, new.
 It turns whole words in crates/*/specs and crates/*/proofs, and the clauses and ghost imports of crates/*/src. Comments and strings stay, but for
 what a comment has between backticks. Words of Rust code stay: none of the rows is spelled like one, but for the names in PLAIN, which turn in
 proofs alone, and not behind a dot.
@@ -44,21 +44,30 @@ def file_turned(text, kind, made):
     return "".join(parts) + turned(text[at:], kind, made)
 
 
+def already(texts):
+    """No name is left that only an older spelling has, in lower camel case."""
+    camel = {old for old in ROWS if re.fullmatch(r"[a-z]+(?:[A-Z][a-z0-9]*)+", old)}
+    code = (QUIET[os.path.splitext(path)[1]].sub("", text) for path, text in texts.items())
+    return not any(camel.intersection(WORD.findall(text)) for text in code)
+
+
 def main():
+    texts = {}
     for folder, folders, files in os.walk(os.path.join(ROOT, "crates")):
         folders[:] = [f for f in folders if f != "out"]
         for name in files:
-            kind = os.path.splitext(name)[1]
-            if kind not in QUIET:
-                continue
-            path = os.path.join(folder, name)
-            with open(path, encoding="utf-8") as it:
-                text = it.read()
-            made = bool(re.search(r"/proofs/.+/", path.split("/crates/")[1]))
-            new = file_turned(text, kind, made)
-            if new != text:
-                with open(path, "w", encoding="utf-8") as it:
-                    it.write(new)
+            if os.path.splitext(name)[1] in QUIET:
+                path = os.path.join(folder, name)
+                with open(path, encoding="utf-8") as it:
+                    texts[path] = it.read()
+    if already(texts):
+        sys.exit("respell: these names are turned already")
+    for path, text in texts.items():
+        made = bool(re.search(r"/proofs/.+/", path.split("/crates/")[1]))
+        new = file_turned(text, os.path.splitext(path)[1], made)
+        if new != text:
+            with open(path, "w", encoding="utf-8") as it:
+                it.write(new)
 
 
 main()

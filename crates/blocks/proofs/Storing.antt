@@ -11,7 +11,7 @@ use lib.Dec.{eqb}
 use lib.ListN.{length, get_or, take, drop, set, length-set, length-take, length-drop}
 use lib.Seq.{get_or-set_same, get_or-set_other, get_or-take, get_or-drop}
 use Rattle.hazard.specs.Cube.{bit}
-use Rattle.cube.specs.Mask.{digit_at_lem}
+use Rattle.cube.specs.Mask.{digit_at}
 use Rattle.cube.specs.declared.mask.Cube.{Cube}
 use Rattle.columns.specs.Relation.{allows, relates}
 use Rattle.columns.specs.Allowing.{AllowedAt}
@@ -141,9 +141,9 @@ module _ {rel : Relation} {n : ℕ} {rows columns : List ℕ} {b : ℕ} (s : Fil
       earlier i d k x y h z = ap (λ (w : ℕ). eqb (bit w (k % 64)) 1) (f.others i d (k / 64) (omega (arith, m)) (λ q. omega (arith, q, z))) ∙ s.is i d k x y h z
 
   -- All inputs of a row, one after the other.
-  all_inputs : (c : Cube) (k m : ℕ) → m ≤ n → k < length rows → k < 64 * b → allowed_to columns k c m ≡ upto (λ i. allows rel (get_or rows k 0) i (digit_at_lem c i)) m
+  all_inputs : (c : Cube) (k m : ℕ) → m ≤ n → k < length rows → k < 64 * b → allowed_to columns k c m ≡ upto (λ i. allows rel (get_or rows k 0) i (digit_at c i)) m
   all_inputs c k zero l h z = refl
-  all_inputs c k (suc m) l h z = ap₂ ◌&&◌ (all_inputs c k m (omega arith) h z) (s.is m (digit_at_lem c m) k l (digit_lt c.care c.value m) h z)
+  all_inputs c k (suc m) l h z = ap₂ ◌&&◌ (all_inputs c k m (omega arith) h z) (s.is m (digit_at c m) k l (digit_lt c.care c.value m) h z)
 
   pub filled-end : length rows ≤ 64 * b → Blocks (λ w c. relates rel n c w) n rows columns
   filled-end l = record { is = λ k h c. all_inputs c k n (le_refl n) h (omega arith) ∙ relates_upto rel n c.care c.value (get_or rows k 0) }

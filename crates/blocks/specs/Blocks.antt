@@ -2,7 +2,7 @@
 use Rattle.std.specs.Prelude.{◌≡◌, ◌≢◌, Bool, true, ◌&&◌, List, ℕ, zero, suc, ◌+◌, ◌*◌, ◌/◌, ◌%◌, ◌≤◌, ◌<◌, eqb, length, get_or}
 use Rattle.hazard.specs.Cube as digits
 use Rattle.hazard.specs.Cube.{bit}
-use Rattle.cube.specs.Mask.{digit_at_lem, cube_of}
+use Rattle.cube.specs.Mask.{digit_at, cube_of}
 use Rattle.cube.specs.declared.mask.Cube.{Cube}
 use Rattle.columns.specs.Relation.{allows}
 use Rattle.columns.specs.declared.relation.Relation.{Relation}
@@ -26,7 +26,7 @@ allowed columns k i d = eqb (bit (word_at columns i d (k / 64)) (k % 64)) 1
 -- Row k has its bit for each input below n, in the words of the cube's digit there.
 abbrev pub allowed_to : List ℕ → ℕ → Cube → ℕ → Bool
 allowed_to columns k c zero = true
-allowed_to columns k c (suc i) = allowed_to columns k c i && allowed columns k i (digit_at_lem c i)
+allowed_to columns k c (suc i) = allowed_to columns k c i && allowed columns k i (digit_at c i)
 
 -- The columns were made from the rows: a row has its bits for all digits of a cube exactly where it is related to the cube.
 pub record Blocks (related : ℕ → digits.Cube → Bool) (n : ℕ) (rows columns : List ℕ) : Type 0 where

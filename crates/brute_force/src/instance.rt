@@ -3,7 +3,7 @@ ghost use Rattle.std.specs.Prelude.{◌≤◌};
 
 use crate::network::{Product, bit, has, nibble, points};
 
-#[derive(Drop)]
+#[derive(Clone, Copy)]
 pub struct Instance {
     pub n: u64,
     // the points of the table with 0, and those with 1
@@ -146,7 +146,7 @@ fn fails(number: u64, p: Instance, k: u64, x: u64) -> bool {
 }
 
 // A refusal's number, transition and point, or a verdict's number and its two fields; the number 0 where there is neither.
-#[derive(Drop)]
+#[derive(Clone, Copy)]
 pub struct Named {
     pub number: u64,
     pub first: u64,

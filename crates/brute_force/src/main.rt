@@ -1,4 +1,6 @@
 // Both calls against a counterpart that moves wires and tries sets of products.
+#![tactic(auto)]
+
 mod bytes;
 mod calls;
 mod counts;

@@ -18,7 +18,7 @@ use testing::marks::{MARK, is_marked};
 use testing::products::{bytes_of, in_sequence};
 
 // Which way an instance went.
-#[derive(Drop)]
+#[derive(Clone, Copy)]
 pub enum Answer {
     Refused,
     None,

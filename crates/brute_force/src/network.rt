@@ -1,12 +1,12 @@
 // Networks of at most 16 products of at most four inputs. A nibble stands for a product, input 0 in its lowest bit.
-#[derive(Drop)]
+#[derive(Clone, Copy)]
 pub struct Product {
     // the inputs with a literal, and those with a plain one
     pub care: u64,
     pub value: u64,
 }
 
-#[derive(Drop)]
+#[derive(Clone, Copy)]
 pub struct Network {
     pub care: u64,
     pub value: u64,

@@ -7,7 +7,7 @@ use crate::network::{Network, empty, product_of, products_of, push};
 use crate::wires::{Found, hazard_free_visited};
 
 // At most 81 products, by their codes.
-#[derive(Drop)]
+#[derive(Clone, Copy)]
 pub struct Codes {
     pub codes: [u64; 81],
     pub count: usize,

@@ -3,7 +3,7 @@ use crate::instance::{Instance, end, start};
 use crate::network::{Network, has, output, spread};
 
 // What is found of a network.
-#[derive(Drop)]
+#[derive(Clone, Copy)]
 pub enum Found {
     HazardFree,
     Hazard,

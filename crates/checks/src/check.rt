@@ -16,7 +16,7 @@ use refusal::refusal::Refusal;
 use rules::run::points_checks;
 
 // What the input rules say: how many required cubes there are, or a refusal.
-#[derive(Drop)]
+#[derive(Clone, Copy)]
 pub enum Counted {
     Accepted(usize),
     Refused(Refusal),

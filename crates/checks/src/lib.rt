@@ -1,3 +1,5 @@
 // The input rules in their order, and the problem that they leave.
+#![tactic(auto)]
+
 pub mod check;
 pub mod stored;

@@ -8,7 +8,7 @@ use lib.Dec.{eqb}
 use Rattle.hazard.specs.Cube.{Cube, bit, fits, has, meets, inside}
 use Rattle.hazard.proofs.Point.{bit-zero, bit-suc}
 use Rattle.cube.specs.Mask.{digit, digits_of}
-use Rattle.cube.specs.Entry.{care_in, value_in_lem, point_in}
+use Rattle.cube.specs.Entry.{care_in, value_in, point_in}
 use Rattle.cube.proofs.Bits.{bit_case2}
 use Rattle.columns.specs.Relation.{allows, relates}
 use Rattle.columns.specs.declared.relation.Relation.{Relation}
@@ -59,9 +59,9 @@ has_upto (suc n) c v x =
     ∙ ap (λ (b : Bool). fits (x % 2) (digit (c % 2) (v % 2)) && b) (has_upto n (c / 2) (v / 2) (x / 2))
 
 pub relates_upto : (rel : Relation) (n care value w : ℕ) → upto (λ i. allows rel w i (digit (bit care i) (bit value i))) n ≡ relates rel n (digits_of n care value) w
-relates_upto Inside n care value w = inside_upto n (care_in w) (value_in_lem w) care value
-relates_upto Meets n care value w = both_upto (λ d e. eqb d 2 || fits d e) meets refl (λ d e ds es. refl) n care value (care_in w) (value_in_lem w)
-relates_upto Contains n care value w = inside_upto n care value (care_in w) (value_in_lem w)
+relates_upto Inside n care value w = inside_upto n (care_in w) (value_in w) care value
+relates_upto Meets n care value w = both_upto (λ d e. eqb d 2 || fits d e) meets refl (λ d e ds es. refl) n care value (care_in w) (value_in w)
+relates_upto Contains n care value w = inside_upto n care value (care_in w) (value_in w)
 relates_upto PointInside n care value w = has_upto n care value (point_in w)
 
 pub digit_lt : (care value i : ℕ) → digit (bit care i) (bit value i) < 3

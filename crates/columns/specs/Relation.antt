@@ -2,13 +2,13 @@
 use Rattle.std.specs.Prelude.{Bool, ◌||◌, ℕ, eqb}
 use Rattle.hazard.specs.Cube.{Cube, bit, fits, has, meets, inside}
 use Rattle.cube.specs.Mask.{digit}
-use Rattle.cube.specs.Entry.{care_in, value_in_lem, point_in, cube_in}
+use Rattle.cube.specs.Entry.{care_in, value_in, point_in, cube_in}
 use Rattle.columns.specs.declared.relation.Relation.{Relation}
 use Rattle.columns.specs.declared.relation.Relation.TheVariants.{Inside, Meets, Contains, PointInside}
 
 -- The digit of the row's cube at input i.
 abbrev pub digit_in : ℕ → ℕ → ℕ
-digit_in w i = digit (bit (care_in w) i) (bit (value_in_lem w) i)
+digit_in w i = digit (bit (care_in w) i) (bit (value_in w) i)
 
 -- At input i the row w allows the digit d of the cube.
 abbrev pub allows : Relation → ℕ → ℕ → ℕ → Bool

@@ -7,7 +7,7 @@ use crate::column::column;
 use cube::entry::{CARE_BIT, POINT_BIT, VALUE_BIT};
 
 // The row's cube lies inside the cube, the cube meets it, it contains the cube, or the row's point lies in the cube.
-#[derive(Drop)]
+#[derive(Clone, Copy)]
 pub enum Relation {
     Inside,
     Meets,
@@ -16,7 +16,7 @@ pub enum Relation {
 }
 
 // The rows that allow the cube's digit 0, 1 and 2.
-#[derive(Drop)]
+#[derive(Clone, Copy)]
 pub struct Allowed {
     pub zero: u64,
     pub one: u64,

@@ -27,21 +27,21 @@ use points::walk::walk_over;
 use refusal::refusal::Refusal;
 
 // A product with a transition, or none.
-#[derive(Drop)]
+#[derive(Clone, Copy)]
 pub enum Place {
     At(u16, u16),
     Nothing,
 }
 
 // The word of a required cube, or none.
-#[derive(Drop)]
+#[derive(Clone, Copy)]
 pub enum Unmet {
     At(u64),
     Nothing,
 }
 
 // How a network is judged: refused, passed, or its first fault.
-#[derive(Drop)]
+#[derive(Clone, Copy)]
 pub enum Verdict {
     Refused(Refusal),
     Passed,

@@ -7,7 +7,7 @@ ghost use Rattle.context.specs.Planes.{valued, plane_word, Plane};
 use crate::places::{ONES, ZEROS};
 
 // The zeros and the ones among up to 64 points, as bits.
-#[derive(Drop)]
+#[derive(Clone, Copy)]
 pub struct Values {
     pub zeros: u64,
     pub ones: u64,

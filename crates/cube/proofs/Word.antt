@@ -9,10 +9,10 @@ use lib.ListN.{get_or, take, length-take, get_or-eq_default}
 use lib.Seq.{get_or-take}
 use Rattle.hazard.specs.Cube as digits
 use Rattle.cube.specs.Mask.{digits_of, Stands}
-use Rattle.cube.specs.Entry.{care_in, value_in_lem, cube_in, Packed, CleanWord}
+use Rattle.cube.specs.Entry.{care_in, value_in, cube_in, Packed, CleanWord}
 use Rattle.cube.specs.declared.mask.Cube.{Cube}
 
-pub stands_in : {n w : ℕ} {c : Cube} → CleanWord n w → (c.care ≡ care_in w) × (c.value ≡ value_in_lem w) → Stands n c (cube_in n w)
+pub stands_in : {n w : ℕ} {c : Cube} → CleanWord n w → (c.care ≡ care_in w) × (c.value ≡ value_in w) → Stands n c (cube_in n w)
 stands_in h (p, q) = record { fits = record { small = rw p h.small; clean = rw (p, q) h.clean }; is = rw (p, q) }
 
 -- A packed cube stands for its digits.

@@ -16,8 +16,8 @@ point_in w = w / 4294967296 % 65536
 abbrev pub care_in : ℕ → ℕ
 care_in w = w / 65536 % 65536
 
-abbrev pub value_in_lem : ℕ → ℕ
-value_in_lem w = w % 65536
+abbrev pub value_in : ℕ → ℕ
+value_in w = w % 65536
 
 -- The bits of a word at which three of them begin.
 abbrev pub value_bit : ℕ
@@ -31,7 +31,7 @@ point_bit = 32
 
 -- The cubes and networks that words stand for.
 abbrev pub cube_in : ℕ → ℕ → Cube
-cube_in n w = digits_of n (care_in w) (value_in_lem w)
+cube_in n w = digits_of n (care_in w) (value_in w)
 
 abbrev pub network_in : ℕ → List ℕ → Network
 network_in n ws = map (cube_in n) ws
@@ -47,10 +47,10 @@ pub record Packed (w transition point care value : ℕ) : Type 0 where
   pub transition' : transition_in w ≡ transition
   pub point' : point_in w ≡ point
   pub care' : care_in w ≡ care
-  pub value' : value_in_lem w ≡ value
+  pub value' : value_in w ≡ value
 
 -- The word's cube and point are those of n inputs.
 pub record CleanWord (n w : ℕ) : Type 0 where
   pub small : care_in w < 2 ^ n
-  pub clean : bit_and (value_in_lem w) (care_in w) ≡ value_in_lem w
+  pub clean : bit_and (value_in w) (care_in w) ≡ value_in w
   pub point : point_in w < 2 ^ n

@@ -9,8 +9,8 @@ abbrev pub digit : ℕ → ℕ → ℕ
 digit care value = cond (eqb care 0) 2 value
 
 -- The digit of the cube at input i.
-abbrev pub digit_at_lem : Cube → ℕ → ℕ
-digit_at_lem c i = digit (digits.bit c.care i) (digits.bit c.value i)
+abbrev pub digit_at : Cube → ℕ → ℕ
+digit_at c i = digit (digits.bit c.care i) (digits.bit c.value i)
 
 -- Input i has bit i of the masks.
 abbrev pub digits_of : ℕ → ℕ → ℕ → digits.Cube

@@ -1,4 +1,6 @@
 // Cubes as two masks, and what the other layers do with them.
+#![tactic(auto)]
+
 pub mod bytes;
 pub mod copy;
 pub mod entry;

@@ -4,7 +4,7 @@ ghost use Rattle.hazard.specs.Cube.{span, join, supercube, inside};
 ghost use Rattle.cube.specs.Mask.{digit_at, cube_of, Stands};
 
 // Bit i of care: input i has a literal. Bit i of value: that literal, 0 where there is none.
-#[derive(Drop)]
+#[derive(Clone, Copy)]
 pub struct Cube {
     pub care: u16,
     pub value: u16,

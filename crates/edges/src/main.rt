@@ -1,5 +1,7 @@
 // Both calls at the edges of what they take. Each line of the input is a case, or a comment after `#`; each line of the output is a
 // case's name and the answer.
+#![tactic(auto)]
+
 mod call;
 mod case;
 mod place;

@@ -1,7 +1,7 @@
 // Places and numbers in a text.
 
 // A number, and the place after it.
-#[derive(Drop)]
+#[derive(Clone, Copy)]
 pub struct Number {
     pub value: u64,
     pub at: usize,

@@ -3,14 +3,14 @@ use crate::place::{Number, is_digit_at, number_at, skip};
 use hazard::limits::MOST_PRODUCTS;
 
 // How many numbers were read, and the place after them.
-#[derive(Drop)]
+#[derive(Clone, Copy)]
 pub struct Read {
     pub count: usize,
     pub at: usize,
 }
 
 // `count` numbers, a and b in turn; and the place after the run.
-#[derive(Drop)]
+#[derive(Clone, Copy)]
 pub struct Run {
     pub a: u16,
     pub b: u16,

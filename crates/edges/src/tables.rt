@@ -1,5 +1,5 @@
 // Tables of 10 inputs that have a rule.
-#[derive(Drop)]
+#[derive(Clone, Copy)]
 pub enum Table {
     // 1 but for points below 32 with more than two 1s: ten points, those below 32 with exactly two, are the last 1s on the way from 0 to 31
     Layers,

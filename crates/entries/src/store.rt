@@ -10,7 +10,7 @@ use cube::mask::span_of;
 use points::word::lowest_point;
 
 // The corner of a required cube opposite its label: a point that all cubes of a transition share, or the label itself.
-#[derive(Drop)]
+#[derive(Clone, Copy)]
 pub enum Corner {
     At(u16),
     Label,

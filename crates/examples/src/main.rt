@@ -1,4 +1,6 @@
 // Every example: the text that one argument names is answered, and the output is compared with the file that the next one names.
+#![tactic(auto)]
+
 ghost use Rattle.io.specs.Counts.{IsPrefixLen};
 
 use answer_text::reply::MOST_OUTPUT;

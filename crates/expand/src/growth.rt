@@ -11,7 +11,7 @@ use points::lowest::Found;
 use points::walk::walk_over;
 
 // How growth ends: legal, with the cube and the steps taken, or blocked, with the lowest zero and the steps taken.
-#[derive(Drop)]
+#[derive(Clone, Copy)]
 pub enum Grown {
     Legal(Cube, u16),
     Blocked(u16, u16),

@@ -44,10 +44,10 @@ module _ (n : ℕ) (off : ℕ → Bool) (vs : List Privileged) (wide : Wide n vs
       first false e = go (grow n off vs (set p i 2)) (grow_ends n off vs wide (set-digits i d.digits))
 
   expand_from-is : {p : Cube} (i m : ℕ) → Dhf n off vs p → Raised i m p (expand_from n off vs i m p)
-  expand_from-is {p} i zero d = record { dhf = d; around = inside_refl p; most = λ q a b j x y. absurd (omega arith) }
-  expand_from-is {p} i (suc m) d =
+  expand_from-is {p = p} i zero d = record { dhf = d; around = inside_refl p; most = λ q a b j x y. absurd (omega arith) }
+  expand_from-is {p = p} i (suc m) d =
       let r = raise-is i d in
-      let t = expand_from-is (suc i) m r.dhf in
+      let t = expand_from-is {p = raise n off vs p i} (suc i) m r.dhf in
       record {
         dhf = t.dhf;
         around = inside_trans r.around t.around;

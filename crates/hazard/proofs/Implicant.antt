@@ -7,7 +7,7 @@ use Prim.Native.Nat.{ℕ, ◌^◌, ◌<◌}
 use native.Mathlib.Omega.{arith}
 use lib.Dec.{T}
 use Rattle.hazard.specs.Search.{found, find}
-use Rattle.hazard.specs.Cube.{Cube, has, meets, inside}
+use Rattle.hazard.specs.Cube.{Cube, has}
 use Rattle.hazard.specs.Sets.{Privileged}
 use Rattle.hazard.specs.Implicant.{illegal, lowest_zero, dhf_implicant, DhfPrime}
 use Rattle.hazard.proofs.Test.{T_and, T_no}

@@ -1,8 +1,7 @@
 -- The sequence of products is a strict order of all of them. An ascending network is known by its products; and what a network has does not
 -- depend on the order in which it stands.
 use mathlib.Core.Path.{◌≡◌, refl, sym, ◌∙◌}
-use mathlib.Core.Logic.{◌⊎◌, inl, inr}
-use mathlib.Core.Bool.{◌&&◌, ◌||◌}
+use mathlib.Core.Logic.{inl, inr}
 use mathlib.Core.List.Memᴰ
 use mathlib.Core.List.Pairwise
 use mathlib.Core.List.{List, [], ◌∷◌, Memᴰ, Nodup}
@@ -11,7 +10,7 @@ use native.Mathlib.Omega.{arith}
 use native.Mathlib.Nat.{not-suc-le-zero, le_of_suc-le-suc}
 use lib.Dec.{T, eqb, ltb, ltb→lt, lt→ltb, eqb→eq}
 use lib.ListN.{length}
-use Rattle.hazard.specs.Cube.{Cube, inside}
+use Rattle.hazard.specs.Cube.{Cube}
 use Rattle.hazard.specs.Sets.{Required}
 use Rattle.hazard.specs.Cover.{Network, product_at, covered, without, Own, Irredundant}
 use Rattle.hazard.specs.Sequence.{before, ascending}
@@ -45,6 +44,7 @@ before_trans (same {d = d} f b) (less {e = e} m) = less {d = d} {e = e} (omega a
 before_trans (same e b) (same f c) = same (e ∙ f) (before_trans b c)
 
 pub before_asym : {p q : Cube} → Before p q → ¬ Before q p
+before_asym short m = elim m [ ]
 before_asym (less l) (less m) = omega arith
 before_asym (less l) (same f c) = omega arith
 before_asym (same e b) (less m) = omega arith

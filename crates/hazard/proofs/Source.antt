@@ -53,7 +53,7 @@ module _ (n : ℕ) (f : List ℕ) (s e : ℕ) (defined : Defined n f s e) (stead
   label-maximal : (x : ℕ) → x < 2 ^ n → T (maximal_label n f s e x) → MaximalOn n f s e x
   label-maximal x l t =
       record {
-        one_on_lem = one_on_lem x l r.0 r.1.0;
+        one_on = one_on_lem x l r.0 r.1.0;
         maximal = λ y o h. ends_i n s y (span-digits n s x) (→has (span_left n s x)) (in_i n s x y (λ i b c. elim (ℕ_discrete (bit s i) (bit y i)) [
           | yes d ↦ d
           | no d ↦ absurd (r.1.1 (wider y o (in_e n s y x (ends_e n s x (span n s y) h).1) i b c d))

@@ -153,6 +153,7 @@ module _ (n : ℕ) (f ts : List ℕ) (net : Network) where
       go passed w e = let z : ◌≡◌ {A = ℕ} 0 1 = cc in absurd (omega arith)
       go (holds_zero i y) w e = let z : ◌≡◌ {A = ℕ} 0 1 = cc in absurd (omega arith)
       go (intersects i y) w e = let z : ◌≡◌ {A = ℕ} 0 1 = cc in absurd (omega arith)
+      go (refused r) w e = elim w [ ]
       go (uncovered i y) (cube_named m t u a c) e = rw (sym (ap (λ (v : Verdict). (fields_of v).transition) e), sym (ap (λ (v : Verdict). (fields_of v).point) e)) (of_cube m)
 
   -- The verdict is `passed` exactly if the three conditions hold.
@@ -164,6 +165,7 @@ module _ (n : ℕ) (f ts : List ℕ) (net : Network) where
 
       only : (v : Verdict) → Named n f ts net v → HazardFreeCover n f ts net → v ≡ passed
       only passed w h = refl
+      only (refused r) w h = elim w [ ]
       only (holds_zero j x) (zero_named l m t o u w) h = absurd (h.a (product_at net j) (entry_at net j l) x m o t)
       only (intersects j k) (illegal_named {v = v} l m t u w z) h = absurd (h.c (product_at net j) (entry_at net j l) v m t)
       only (uncovered k x) (cube_named {r = r} m t u w z) h = absurd (t (h.b r m))

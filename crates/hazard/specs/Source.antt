@@ -35,7 +35,7 @@ pub record OneOn (n : ℕ) (f : List ℕ) (a b x : ℕ) : Type 0 where
 
 -- Lemma 2.8: [a,x] is a maximal subcube of [a,b] on which f is 1.
 pub record MaximalOn (n : ℕ) (f : List ℕ) (a b x : ℕ) : Type 0 where
-  pub one_on_lem : OneOn n f a b x
+  pub one_on : OneOn n f a b x
   pub maximal : (y : ℕ) → OneOn n f a b y → T (inside (span n a x) (span n a y)) → T (inside (span n a y) (span n a x))
 
 -- The labels that Lemmas 2.7 to 2.9 give: none, those of the fall read in reverse, the maximal subcubes, the whole cube.

@@ -7,7 +7,7 @@ ghost use Rattle.kinds.specs.Codes.{kind_is, kind_in};
 use context::value::one_at;
 
 // 0 to 0 (static low), 0 to 1 (rise), 1 to 0 (fall), 1 to 1 (static high).
-#[derive(Drop)]
+#[derive(Clone, Copy)]
 pub enum Kind {
     Low,
     Rise,

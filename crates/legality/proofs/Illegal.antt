@@ -11,7 +11,7 @@ use lib.ListN.{length, get_or}
 use Rattle.hazard.specs.Cube.{bit}
 use Rattle.hazard.specs.Implicant.{illegal}
 use Rattle.hazard.proofs.Test.{so}
-use Rattle.cube.specs.Mask.{digit_at_lem, cube_of}
+use Rattle.cube.specs.Mask.{digit_at, cube_of}
 use Rattle.cube.specs.Entry.{privileged_in}
 use Rattle.cube.specs.declared.mask.Cube.{Cube}
 use Rattle.cube.proofs.WordMask.{both_test, less_test}
@@ -29,24 +29,24 @@ pub narrowed_start : (columns : List ℕ) (c : Cube) {count size r : ℕ} → si
 narrowed_start columns c {count} same h =
     record { is = λ k l. let e : 64 * 0 + k ≡ k = omega arith in h k l ∙ ap₂ ltb e same ∙ and-true (ltb k count) }
 
-narrowed_step : {columns : List ℕ} {c : Cube} {count i r w : ℕ} → Narrowed columns c count i r → w ≡ word_at columns i (digit_at_lem c i) 0 → Narrowed columns c count (i + 1) (bit_and r w)
+narrowed_step : {columns : List ℕ} {c : Cube} {count i r w : ℕ} → Narrowed columns c count i r → w ≡ word_at columns i (digit_at c i) 0 → Narrowed columns c count (i + 1) (bit_and r w)
 narrowed_step {columns} {c} {count} {i} {r} {w} s e =
     record {
-      is = λ k l. both_test r w k ∙ ap₂ ◌&&◌ (s.is k l) (here k l) ∙ and_assoc (ltb k count) (allowed_to columns k c i) (allowed columns k i (digit_at_lem c i)) ∙ ap (λ (j : ℕ). ltb k count && allowed_to columns k c j) (sym (add-one i));
+      is = λ k l. both_test r w k ∙ ap₂ ◌&&◌ (s.is k l) (here k l) ∙ and_assoc (ltb k count) (allowed_to columns k c i) (allowed columns k i (digit_at c i)) ∙ ap (λ (j : ℕ). ltb k count && allowed_to columns k c j) (sym (add-one i));
     }
   where
-    here : (k : ℕ) → k < 64 → eqb (bit w k) 1 ≡ allowed columns k i (digit_at_lem c i)
+    here : (k : ℕ) → k < 64 → eqb (bit w k) 1 ≡ allowed columns k i (digit_at c i)
     here k l =
         let q : 0 ≡ k / 64 = omega arith in
         let p : k ≡ k % 64 = omega arith in
-        ap (λ (y : ℕ). eqb (bit y k) 1) (e ∙ ap (word_at columns i (digit_at_lem c i)) q) ∙ ap (λ (j : ℕ). eqb (bit (word_at columns i (digit_at_lem c i) (k / 64)) j) 1) p
+        ap (λ (y : ℕ). eqb (bit y k) 1) (e ∙ ap (word_at columns i (digit_at c i)) q) ∙ ap (λ (j : ℕ). eqb (bit (word_at columns i (digit_at c i) (k / 64)) j) 1) p
 
 -- A turn of the loop: the word that the code reads for input i, in columns with one word in each run.
-pub column_step : {columns : List ℕ} {c : Cube} {count i d at r : ℕ} → length columns ≡ 30 → d ≡ digit_at_lem c i → at ≡ run_of 1 i d → Narrowed columns c count i r → Narrowed columns c count (i + 1) (bit_and r (get_or columns at 0))
+pub column_step : {columns : List ℕ} {c : Cube} {count i d at r : ℕ} → length columns ≡ 30 → d ≡ digit_at c i → at ≡ run_of 1 i d → Narrowed columns c count i r → Narrowed columns c count (i + 1) (bit_and r (get_or columns at 0))
 column_step {columns} {c} {i = i} {at = at} long e f t =
     let one : 1 ≡ stride columns = omega (arith, long) in
-    let p : at ≡ run_of 1 i (digit_at_lem c i) + 0 = omega (arith, e, f) in
-    narrowed_step t (ap (λ (q : ℕ). get_or columns q 0) p ∙ ap (λ (words : ℕ). get_or columns (run_of words i (digit_at_lem c i) + 0) 0) one)
+    let p : at ≡ run_of 1 i (digit_at c i) + 0 = omega (arith, e, f) in
+    narrowed_step t (ap (λ (q : ℕ). get_or columns q 0) p ∙ ap (λ (words : ℕ). get_or columns (run_of words i (digit_at c i) + 0) 0) one)
 
 module _ {n : ℕ} {w : List ℕ} (s : Ready n w) where
   -- A word has room for the privileged cubes.

@@ -15,7 +15,7 @@ use context::places::{meets, privileged, starts};
 use cube::mask::{Cube, digit_at};
 
 // The word of a privileged cube, or none.
-#[derive(Drop)]
+#[derive(Clone, Copy)]
 pub enum Met {
     At(u64),
     Nothing,

@@ -9,7 +9,7 @@ use lib.ListN.{length, get_or, take, drop, length-append}
 use lib.Seq.{take_all, take-length, take_at, drop-append-add, drop-drop, paste, length-take-le}
 use Rattle.hazard.specs.Cover.{Network}
 use Rattle.hazard.specs.Minimal.{bytes_of}
-use Rattle.cube.specs.Entry.{care_in, value_in_lem, cube_in, network_in}
+use Rattle.cube.specs.Entry.{care_in, value_in, cube_in, network_in}
 use Rattle.cube.proofs.Digits.{length_digits}
 use Rattle.cube.proofs.Networks.{network-suc}
 
@@ -20,7 +20,7 @@ bytes-snoc (q ∷ net) p = rw (bytes-snoc net p) (sym (append_assoc q (bytes_of 
 -- n bytes for each product.
 pub bytes-length : (n : ℕ) (ws : List ℕ) → length (bytes_of (network_in n ws)) ≡ length ws * n
 bytes-length n [] = sym (zero-mul n)
-bytes-length n (w ∷ ws) = length-append (cube_in n w) (bytes_of (network_in n ws)) ∙ omega (arith, length_digits n (care_in w) (value_in_lem w), bytes-length n ws, suc-mul (length ws) n)
+bytes-length n (w ∷ ws) = length-append (cube_in n w) (bytes_of (network_in n ws)) ∙ omega (arith, length_digits n (care_in w) (value_in w), bytes-length n ws, suc-mul (length ws) n)
 
 -- The products up to j are written, and the rest of the buffer is as it was.
 pub record Writing (n : ℕ) (ws before out : List ℕ) (at j : ℕ) : Type 0 where
@@ -57,7 +57,7 @@ module _ {n : ℕ} {ws before out : List ℕ} {at j : ℕ} (s : Writing n ws bef
           ∙ drop-append-add (bytes_of (network_in n (take j ws))) (drop at before) n ∙ drop-drop n at before)
 
       whole : take n (cube_in n (get_or ws j 0)) ≡ cube_in n (get_or ws j 0)
-      whole = take_all n (cube_in n (get_or ws j 0)) (omega (arith, length_digits n (care_in (get_or ws j 0)) (value_in_lem (get_or ws j 0))))
+      whole = take_all n (cube_in n (get_or ws j 0)) (omega (arith, length_digits n (care_in (get_or ws j 0)) (value_in (get_or ws j 0))))
 
       grown : paste out at (cube_in n (get_or ws j 0)) n ≡ bytes_of (network_in n (take (j + 1) ws)) ++ drop (at + n) before
       grown = rw (head, tail, whole, add-one, network-suc n ws j h, bytes-snoc)

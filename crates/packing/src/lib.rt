@@ -1,4 +1,6 @@
 // The answers of both calls, each packed into one number.
+#![tactic(auto)]
+
 ghost use Rattle.std.specs.Prelude.{◌≡◌, ◌<◌};
 ghost use Rattle.hazard.specs.Verdict.{fields_of};
 ghost use Rattle.refusal.specs.Answer.{refusal_of};

@@ -1,4 +1,6 @@
 // Sets of points, 64 at a time: point x is bit x % 64 of word x / 64.
+#![tactic(auto)]
+
 pub mod lowest;
 pub mod union;
 pub mod walk;

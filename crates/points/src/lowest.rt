@@ -11,7 +11,7 @@ use crate::word::{lowest_point, set_points};
 use cube::mask::Cube;
 
 // What a search for a point says.
-#[derive(Drop)]
+#[derive(Clone, Copy)]
 pub enum Found {
     At(u16),
     Nothing,

@@ -10,7 +10,7 @@ use cube::point::next;
 use cube::word_mask::{low_mask, word_cube};
 
 // The words and the bits of a cube, and of the one that is left out.
-#[derive(Drop)]
+#[derive(Clone, Copy)]
 pub struct Walk {
     pub words: Cube,
     pub mask: u64,
@@ -19,7 +19,7 @@ pub struct Walk {
 }
 
 // A word of a walk, and its bits that are points.
-#[derive(Drop)]
+#[derive(Clone, Copy)]
 pub struct Step {
     pub word: usize,
     pub mask: u64,

@@ -1,5 +1,5 @@
 // How many were read into the lent room, or that there is no reading.
-#[derive(Drop)]
+#[derive(Clone, Copy)]
 pub enum Count {
     Of(usize),
     Nothing,

@@ -2,14 +2,14 @@
 ghost use Rattle.std.specs.Prelude.{◌≡◌, true, ◌-◌, ◌≤◌, length, drop};
 ghost use Rattle.problem_text.specs.Read.{is_digit, extended, number, longer_of, number_of, next_of};
 // A number, and the place after it.
-#[derive(Drop)]
+#[derive(Clone, Copy)]
 pub enum Number {
     Found(u16, usize),
     Nothing,
 }
 
 // A number with a digit more.
-#[derive(Drop)]
+#[derive(Clone, Copy)]
 pub enum Longer {
     To(u16),
     Nothing,

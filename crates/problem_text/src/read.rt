@@ -9,7 +9,7 @@ use crate::table::table_into;
 use crate::transition::transitions_into;
 
 // The number of inputs, the length of the table and the length of the list of transitions.
-#[derive(Drop)]
+#[derive(Clone, Copy)]
 pub enum Read {
     Problem(usize, usize, usize),
     Malformed,

@@ -5,7 +5,7 @@ ghost use Rattle.problem_text.specs.Read.{value_of, table_line, cell_of, table_o
 use crate::count::Count;
 
 // What a character stands for.
-#[derive(Drop)]
+#[derive(Clone, Copy)]
 pub enum Cell {
     Value(u8),
     Nothing,

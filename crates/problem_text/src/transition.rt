@@ -7,7 +7,7 @@ use crate::field::field_at;
 use crate::number::Number;
 
 // A transition's start and end, and the place after its line.
-#[derive(Drop)]
+#[derive(Clone, Copy)]
 pub enum Line {
     Found(u16, u16, usize),
     Nothing,

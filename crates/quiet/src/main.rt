@@ -1,4 +1,6 @@
 // The program: a problem's text from standard input, the answer to standard output.
+#![tactic(auto)]
+
 use answer_text::reply::MOST_OUTPUT;
 use quiet_text::answer::reply;
 

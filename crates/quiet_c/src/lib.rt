@@ -1,4 +1,6 @@
 // Both calls for C and other languages: numbers and slices in, one u64 out. The contracts speak of what is read out of it.
+#![tactic(auto)]
+
 ghost use Rattle.hazard.specs.Minimal.{Promise};
 ghost use Rattle.packing.specs.Packed.{unpacked_answer, ReadVerdict};
 

@@ -13,7 +13,7 @@ use refusal::refusal::refuse;
 use selection::minimised::Minimised;
 
 // How many bytes of the buffer are the output; or the buffer is too short for every output, and is left as it was.
-#[derive(Drop)]
+#[derive(Clone, Copy)]
 pub enum Output {
     Written(usize),
     NoRoom,

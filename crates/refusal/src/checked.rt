@@ -7,7 +7,7 @@ ghost use Rattle.refusal.specs.Answer.{checked_of};
 use crate::refusal::{Refusal, refuse};
 
 // Nothing was found, or a refusal.
-#[derive(Drop)]
+#[derive(Clone, Copy)]
 pub enum Checked {
     Accepted,
     Refused(Refusal),

@@ -4,7 +4,7 @@ ghost use Rattle.hazard.specs.Refusal as spec;
 ghost use Rattle.refusal.specs.Answer.{refusal_of};
 
 // A refusal: its number, and all that any refusal names. What a refusal does not name is 0.
-#[derive(Drop)]
+#[derive(Clone, Copy)]
 pub struct Refusal {
     pub number: u16,
     pub transition: u16,

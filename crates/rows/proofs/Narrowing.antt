@@ -9,7 +9,7 @@ use lib.Bits.{bit_and}
 use lib.Dec.{eqb, ltb, ltb→lt}
 use lib.ListN.{length, get_or}
 use Rattle.hazard.specs.Cube.{bit}
-use Rattle.cube.specs.Mask.{digit_at_lem}
+use Rattle.cube.specs.Mask.{digit_at}
 use Rattle.cube.specs.PointSet.{in_set}
 use Rattle.cube.specs.declared.mask.Cube.{Cube}
 use Rattle.hazard.proofs.Test.{so}
@@ -41,19 +41,19 @@ narrowing_start columns c old = record { long = refl; is = λ k h. and_one (in_s
 
 module _ {columns : List ℕ} {c : Cube} {old new : List ℕ} {i : ℕ} (s : Narrowing columns c old new i) (next : List ℕ) (l : length next ≡ length new) where
   abbrev own : ℕ → ℕ → Bool
-  own k j = allowed columns k j (digit_at_lem c j)
+  own k j = allowed columns k j (digit_at c j)
 
   -- The bits of the words with those of inputs i and j.
-  bits : (j : ℕ) {at also : ℕ} → at ≡ run_of (stride columns) i (digit_at_lem c i) → also ≡ run_of (stride columns) j (digit_at_lem c j)
+  bits : (j : ℕ) {at also : ℕ} → at ≡ run_of (stride columns) i (digit_at c i) → also ≡ run_of (stride columns) j (digit_at c j)
       → ((b : ℕ) → b < length new → get_or next b 0 ≡ bit_and (get_or new b 0) (bit_and (get_or columns (at + b) 0) (get_or columns (also + b) 0)))
       → (k : ℕ) → k < 64 * length old → in_set next k ≡ ((in_set old k && allowed_to columns k c i) && (own k i && own k j))
   bits j {at} {also} e f h k a =
       ap (λ (w : ℕ). eqb (bit w (k % 64)) 1) (h (k / 64) (omega (arith, s.long)) ∙ ap₂ (λ (y z : ℕ). bit_and (get_or new (k / 64) 0) (bit_and (get_or columns (y + k / 64) 0) (get_or columns (z + k / 64) 0))) e f)
-      ∙ both_test (get_or new (k / 64) 0) (bit_and (word_at columns i (digit_at_lem c i) (k / 64)) (word_at columns j (digit_at_lem c j) (k / 64))) (k % 64)
-      ∙ ap₂ ◌&&◌ (s.is k a) (both_test (word_at columns i (digit_at_lem c i) (k / 64)) (word_at columns j (digit_at_lem c j) (k / 64)) (k % 64))
+      ∙ both_test (get_or new (k / 64) 0) (bit_and (word_at columns i (digit_at c i) (k / 64)) (word_at columns j (digit_at c j) (k / 64))) (k % 64)
+      ∙ ap₂ ◌&&◌ (s.is k a) (both_test (word_at columns i (digit_at c i) (k / 64)) (word_at columns j (digit_at c j) (k / 64)) (k % 64))
 
   -- Input i and the next one, or input i twice.
-  pub narrowing_step : {j at also : ℕ} (n : ℕ) → j ≡ cond (ltb (i + 1) n) (i + 1) i → at ≡ run_of (stride columns) i (digit_at_lem c i) → also ≡ run_of (stride columns) j (digit_at_lem c j)
+  pub narrowing_step : {j at also : ℕ} (n : ℕ) → j ≡ cond (ltb (i + 1) n) (i + 1) i → at ≡ run_of (stride columns) i (digit_at c i) → also ≡ run_of (stride columns) j (digit_at c j)
       → ((b : ℕ) → b < length new → get_or next b 0 ≡ bit_and (get_or new b 0) (bit_and (get_or columns (at + b) 0) (get_or columns (also + b) 0))) → Narrowing columns c old next (j + 1)
   narrowing_step {j} n e f g h = go (ltb (i + 1) n) e
     where

@@ -1,4 +1,6 @@
 // A product for a required cube, the forward choice with the first blocking cube, and those kept.
+#![tactic(auto)]
+
 pub mod choose;
 pub mod minimised;
 pub mod near;

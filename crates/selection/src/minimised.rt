@@ -2,7 +2,7 @@
 use refusal::refusal::Refusal;
 
 // How many products there are, or why there are none.
-#[derive(Drop)]
+#[derive(Clone, Copy)]
 pub enum Minimised {
     Products(usize),
     Refused(Refusal),

@@ -62,7 +62,7 @@ fn widened(
 }
 
 // What is made for a required cube: its product, or its refusal.
-#[derive(Drop)]
+#[derive(Clone, Copy)]
 pub enum Made {
     Product(Cube),
     Blocked(Refusal),

@@ -15,7 +15,7 @@ use columns::relation::Relation;
 use refusal::refusal::Refusal;
 
 // The places from which and to which the words of the network stand, or the refusal of the first required cube that blocks.
-#[derive(Drop)]
+#[derive(Clone, Copy)]
 pub enum Selected {
     Words(usize, usize),
     Refused(Refusal),

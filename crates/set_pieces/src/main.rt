@@ -1,4 +1,6 @@
 // The twelve set pieces, run through both calls.
+#![tactic(auto)]
+
 use selection::minimised::Minimised;
 use testing::calls;
 use testing::count::print_count;

@@ -1,4 +1,6 @@
 // What the test programs share.
+#![tactic(auto)]
+
 pub mod calls;
 pub mod count;
 pub mod marks;

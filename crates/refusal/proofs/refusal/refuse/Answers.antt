@@ -1,0 +1,5 @@
+use mathlib.Core.Path.{refl, ◌∙◌}
+use Rattle.refusal.proofs.refusal.refuse.Goals as goal
+
+pub returns : goal.returns
+returns c = c.refusal_with.ensures ∙ refl
