@@ -1,0 +1,15 @@
+use mathlib.Core.Path.{sym, ◌∙◌}
+use mathlib.Core.List.{map}
+use Prim.Native.Nat.{◌-◌, ◌≤◌, ◌<◌}
+use native.Mathlib.Omega.{arith}
+use lib.ListN.{length, length-map, get_or-map}
+use borrow.Author.Rules.{rules}
+use Rattle.problem_text.specs.Form.{cell}
+use Rattle.writing.proofs.Writing.{Writing, writing_start, writing_step, writing_end, wrote_byte, wrote_then}
+use Rattle.writing.proofs.put.put_product.Given as goal
+
+abbrev pub invariant-loop-i : goal.invariant-loop-i
+invariant-loop-i l = (l.i ≤ length l.product) × Writing (map cell l.product) l.initial.out l.at l.out l.i
+
+abbrev pub decreases-loop-i : goal.decreases-loop-i
+decreases-loop-i l = length l.product - l.i
