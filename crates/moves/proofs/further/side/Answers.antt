@@ -4,8 +4,7 @@ use lib.Dec.{T}
 use lib.ListN.{get_or}
 use Rattle.moves.proofs.FurtherWord.{all, is_side, side_of}
 use borrow.Author.Rules.{rules}
-use Rattle.moves.proofs.further.side.Statement.{statement}
-use Rattle.moves.proofs.further.side.Tie as tie
+use Rattle.moves.proofs.further.side.Goals as goal
 
 -- The code's table, and its rule at each entry.
 abbrev sides : List ℕ
@@ -22,8 +21,5 @@ right : T (all (λ j. is_side j (get_or sides j 0)) 12)
 unfolding is_side
 right = tt
 
-returns : tie.Need-returns
+pub returns : goal.returns
 returns c = side_of sides right c.args.i c.args.from c.requires.0 c.requires.1
-
-pub side-spec : {M : Type 1} → statement M
-side-spec = tie.close (tie.spec (λ c. search rules) (λ c. search rules) (λ c. search rules) (λ c. search rules) returns)

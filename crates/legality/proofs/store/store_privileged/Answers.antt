@@ -1,0 +1,53 @@
+use mathlib.Core.Path.{◌≡◌, ◌∙◌}
+use mathlib.Core.List.{List}
+use Prim.Native.Nat.{ℕ, ◌+◌, ◌-◌, ◌≤◌}
+use native.Mathlib.Omega.{arith}
+use lib.ListN.{length, take, drop}
+use lib.Seq.{take_all}
+use Rattle.context.specs.Places.{privileged_at, meets_at, starts_at}
+use Rattle.context.proofs.Parts.{part_length}
+use Rattle.legality.proofs.Placing.{placed, placed_length}
+use Rattle.legality.proofs.Storing.{stored_length, filled_is}
+use borrow.Author.Rules.{rules}
+use Rattle.legality.proofs.store.store_privileged.Goals as goal
+use Rattle.legality.proofs.store.store_privileged.Goals.{After-slice_known-4-1, Start}
+
+-- As many words are copied as there are.
+cut : (c : Start) → length c.args.privileged.now ≡ privileged_at + length c.args.privileged.now - privileged_at
+cut c = omega arith
+
+-- The three parts, and their lengths.
+abbrev part : tie.After-slice-known4 → List ℕ
+part c = c.before.before.before.before.before.before.before.before.before.before.copy-into.new.1.0
+
+abbrev first : tie.After-slice-known4 → List ℕ
+first c = c.before.before.before.before.before.before.blocks-into.new.1.1.1.0
+
+abbrev second : tie.After-slice-known4 → List ℕ
+second c = c.before.before.blocks-into2.new.1.1.1.0
+
+sizes : (c : After-slice_known-4-1) → (length (part c) ≡ privileged_at + length c.args.privileged.now - privileged_at) × ((length (first c) ≡ 30) × (length (second c) ≡ 30))
+sizes c =
+    let w = c.args.context.now in
+    let m = privileged_at + length c.args.privileged.now - privileged_at in
+    let h : privileged_at + m ≤ length w = omega (arith, c.requires.1, c.requires.2) in
+    let p = c.copy_into.auto.to ∙ part_length privileged_at m w h in
+    let one = placed_length privileged_at m (part c) w p h in
+    let q = c.blocks_into.auto.columns ∙ part_length meets_at 30 (placed privileged_at m (part c) w) (omega (arith, one, c.requires.2)) in
+    let two = placed_length meets_at 30 (first c) (placed privileged_at m (part c) w) q (omega (arith, one, c.requires.2)) in
+    (p, (q, c.blocks_into-2.auto.columns ∙ part_length starts_at 30 (placed meets_at 30 (first c) (placed privileged_at m (part c) w)) (omega (arith, one, two, c.requires.2))))
+
+-- All of them are copied.
+copied : (c : After-slice_known-4-1) → part c ≡ c.args.privileged.now
+copied c =
+    let w = c.args.context.now in
+    let m = privileged_at + length c.args.privileged.now - privileged_at in
+    let l = part_length privileged_at m w (omega (arith, c.requires.1, c.requires.2)) in
+    c.copy_into.ensures ∙ take_all (length (take m (drop privileged_at w))) c.args.privileged.now (omega (arith, l, cut (c).Start))
+
+pub shape_of-context : goal.shape_of-context
+shape_of-context c = stored_length (privileged_at + length c.args.privileged.now - privileged_at) (length c.args.privileged.now) (part c) (first c) (second c) c.args.context.now c.requires.2 (cut (goal.at.shape_of-context c).Start) (omega (arith, cut (goal.at.shape_of-context c).Start, c.requires.1)) (sizes (goal.at.shape_of-context c).After-slice_known-4-1).0 (sizes (goal.at.shape_of-context c).After-slice_known-4-1).1.0 (sizes (goal.at.shape_of-context c).After-slice_known-4-1).1.1
+
+pub returns : goal.returns
+returns c =
+    filled_is (privileged_at + length c.args.privileged.now - privileged_at) (length c.args.privileged.now) (part c) (first c) (second c) c.args.context.now c.requires.2 (cut (goal.at.returns c).Start) (omega (arith, cut (goal.at.returns c).Start, c.requires.1)) (sizes (goal.at.returns c).After-slice_known-4-1).0 (sizes (goal.at.returns c).After-slice_known-4-1).1.0 (sizes (goal.at.returns c).After-slice_known-4-1).1.1 c.requires.0 (copied (goal.at.returns c).After-slice_known-4-1) c.blocks_into.ensures c.blocks_into-2.ensures

@@ -1,0 +1,20 @@
+use mathlib.Core.Path.{refl}
+use Prim.Native.Nat.{◌-◌, ◌≤◌}
+use lib.Bits.{bit_and, bit_xor}
+use lib.ListN.{length, get_or}
+use native.Mathlib.Omega.{arith}
+use Rattle.cube.proofs.Sweep.{Sweep, sweep_start, sweep_step}
+use borrow.Author.Rules.{rules}
+use Rattle.rows.proofs.split.remove.Goals as goal
+
+pub loop-b-init : goal.loop-b-init
+loop-b-init c = (omega arith, sweep_start _ _ _)
+
+pub bounds-set-b : goal.bounds-set-b
+bounds-set-b c = omega (arith, c.loop-b.invariant.1.long, c.requires)
+
+pub loop-b-preserved : goal.loop-b-preserved
+loop-b-preserved c = let l = c.loop-b in (omega arith, sweep_step l.invariant.1 (omega (arith, l.invariant.1.long, c.requires)) refl)
+
+pub returns : goal.returns
+returns c = λ b h. c.loop-b.invariant.1.done b (omega arith)

@@ -1,0 +1,14 @@
+use mathlib.Core.Path.{refl}
+use Prim.Native.Nat.{◌-◌, ◌≤◌}
+use lib.Bits.{bit_and, bit_xor}
+use lib.ListN.{length, get_or}
+use native.Mathlib.Omega.{arith}
+use Rattle.cube.proofs.Sweep.{Sweep, sweep_start, sweep_step}
+use borrow.Author.Rules.{rules}
+use Rattle.rows.proofs.split.remove.Given as goal
+
+abbrev pub invariant-loop-b : goal.invariant-loop-b
+invariant-loop-b l = (l.b ≤ length l.other) × Sweep (λ k v. bit_xor v (bit_and v (get_or l.other k 0))) 0 l.initial.set l.set l.b
+
+abbrev pub decreases-loop-b : goal.decreases-loop-b
+decreases-loop-b l = length l.other - l.b
