@@ -1,4 +1,5 @@
 use mathlib.Core.Path.{◌≡◌, sym, ap, ap₂, ◌∙◌}
+use native.Mathlib.Omega.{arith}
 use Prim.Native.Nat.{ℕ, ◌+◌, ◌*◌}
 use Rattle.hazard.specs.Transition.{kind_of}
 use Rattle.kinds.specs.Codes.{one_at}
@@ -21,4 +22,4 @@ pub returns-in-2 : goal.returns-in-2
 returns-in-2 c = ap kind_of (sym c.in-2.is ∙ code (goal.at.returns-in-2 c).After-one_at-2)
 
 pub returns-in_default : goal.returns-in_default
-returns-in_default c = kind-high _ c.in_default.rest.0.0.1 c.in_default.rest.0.1 c.in_default.rest.1 ∙ ap kind_of (code (goal.at.returns-in_default c).After-one_at-2)
+returns-in_default c = kind-high (2 * c.one_at.result + c.one_at-2.result) (omega arith) (omega arith) (omega arith) ∙ ap kind_of (code (goal.at.returns-in_default c).After-one_at-2)

@@ -10,23 +10,23 @@ use Rattle.legality.proofs.Placing.{placed, placed_length}
 use Rattle.legality.proofs.Storing.{stored_length, filled_is}
 use borrow.Author.Rules.{rules}
 use Rattle.legality.proofs.store.store_privileged.Goals as goal
-use Rattle.legality.proofs.store.store_privileged.Goals.{After-slice_known-4-1, Start}
+use Rattle.legality.proofs.store.store_privileged.Goals.{After-blocks_into-2}
 
 -- As many words are copied as there are.
-cut : (c : Start) → length c.args.privileged.now ≡ privileged_at + length c.args.privileged.now - privileged_at
-cut c = omega arith
+cut : (k : ℕ) → k ≡ privileged_at + k - privileged_at
+cut k = omega arith
 
 -- The three parts, and their lengths.
-abbrev part : tie.After-slice-known4 → List ℕ
-part c = c.before.before.before.before.before.before.before.before.before.before.copy-into.new.1.0
+abbrev part : After-blocks_into-2 → List ℕ
+part c = c.copy_into.new.to
 
-abbrev first : tie.After-slice-known4 → List ℕ
-first c = c.before.before.before.before.before.before.blocks-into.new.1.1.1.0
+abbrev first : After-blocks_into-2 → List ℕ
+first c = c.blocks_into.new.columns
 
-abbrev second : tie.After-slice-known4 → List ℕ
-second c = c.before.before.blocks-into2.new.1.1.1.0
+abbrev second : After-blocks_into-2 → List ℕ
+second c = c.blocks_into-2.new.columns
 
-sizes : (c : After-slice_known-4-1) → (length (part c) ≡ privileged_at + length c.args.privileged.now - privileged_at) × ((length (first c) ≡ 30) × (length (second c) ≡ 30))
+sizes : (c : After-blocks_into-2) → (length (part c) ≡ privileged_at + length c.args.privileged.now - privileged_at) × ((length (first c) ≡ 30) × (length (second c) ≡ 30))
 sizes c =
     let w = c.args.context.now in
     let m = privileged_at + length c.args.privileged.now - privileged_at in
@@ -38,16 +38,19 @@ sizes c =
     (p, (q, c.blocks_into-2.auto.columns ∙ part_length starts_at 30 (placed meets_at 30 (first c) (placed privileged_at m (part c) w)) (omega (arith, one, two, c.requires.2))))
 
 -- All of them are copied.
-copied : (c : After-slice_known-4-1) → part c ≡ c.args.privileged.now
+copied : (c : After-blocks_into-2) → part c ≡ c.args.privileged.now
 copied c =
     let w = c.args.context.now in
     let m = privileged_at + length c.args.privileged.now - privileged_at in
     let l = part_length privileged_at m w (omega (arith, c.requires.1, c.requires.2)) in
-    c.copy_into.ensures ∙ take_all (length (take m (drop privileged_at w))) c.args.privileged.now (omega (arith, l, cut (c).Start))
+    c.copy_into.ensures ∙ take_all (length (take m (drop privileged_at w))) c.args.privileged.now (omega (arith, l, cut (length c.args.privileged.now)))
 
 pub shape_of-context : goal.shape_of-context
-shape_of-context c = stored_length (privileged_at + length c.args.privileged.now - privileged_at) (length c.args.privileged.now) (part c) (first c) (second c) c.args.context.now c.requires.2 (cut (goal.at.shape_of-context c).Start) (omega (arith, cut (goal.at.shape_of-context c).Start, c.requires.1)) (sizes (goal.at.shape_of-context c).After-slice_known-4-1).0 (sizes (goal.at.shape_of-context c).After-slice_known-4-1).1.0 (sizes (goal.at.shape_of-context c).After-slice_known-4-1).1.1
+shape_of-context c =
+    let here = (goal.at.shape_of-context c).After-blocks_into-2 in
+    stored_length (privileged_at + length c.args.privileged.now - privileged_at) (length c.args.privileged.now) (part here) (first here) (second here) c.args.context.now c.requires.2 (cut (length c.args.privileged.now)) (omega (arith, cut (length c.args.privileged.now), c.requires.1)) (sizes here).0 (sizes here).1.0 (sizes here).1.1
 
 pub returns : goal.returns
 returns c =
-    filled_is (privileged_at + length c.args.privileged.now - privileged_at) (length c.args.privileged.now) (part c) (first c) (second c) c.args.context.now c.requires.2 (cut (goal.at.returns c).Start) (omega (arith, cut (goal.at.returns c).Start, c.requires.1)) (sizes (goal.at.returns c).After-slice_known-4-1).0 (sizes (goal.at.returns c).After-slice_known-4-1).1.0 (sizes (goal.at.returns c).After-slice_known-4-1).1.1 c.requires.0 (copied (goal.at.returns c).After-slice_known-4-1) c.blocks_into.ensures c.blocks_into-2.ensures
+    let here = (goal.at.returns c).After-blocks_into-2 in
+    filled_is (privileged_at + length c.args.privileged.now - privileged_at) (length c.args.privileged.now) (part here) (first here) (second here) c.args.context.now c.requires.2 (cut (length c.args.privileged.now)) (omega (arith, cut (length c.args.privileged.now), c.requires.1)) (sizes here).0 (sizes here).1.0 (sizes here).1.1 c.requires.0 (copied here) c.blocks_into.ensures c.blocks_into-2.ensures
