@@ -1,0 +1,39 @@
+use mathlib.Core.Path.{◌≡◌, refl, sym, ap, ◌∙◌}
+use mathlib.Core.List.{map}
+use Prim.Native.Nat.{◌-◌}
+use native.Mathlib.Omega.{arith}
+use lib.ListN.{length}
+use borrow.Author.Rules.{rules}
+use mathlib.Core.Bool.{not}
+use Rattle.hazard.specs.Sets.{Required}
+use Rattle.hazard.specs.Cover.{covered}
+use Rattle.hazard.specs.Verdict.{fault_b}
+use Rattle.cube.specs.Entry.{required_in, network_in}
+use Rattle.cube.proofs.Left.{Left, left-start, left_end, find_hit, find_miss}
+use Rattle.conditions.proofs.fault.fault_b.Goals as goal
+
+pub loop-k-init : goal.loop-k-init
+loop-k-init c = (refl, left-start)
+
+pub covers-requires : goal.covers-requires
+covers-requires c =
+    let e = c.loop-k.invariant.0 in
+    record { n_bound = (c.requires.n_bound.0, omega (arith, c.requires.n_bound.1, e), omega (arith, c.requires.n_bound.2, e)); containing = c.requires.containing }
+
+pub returns-then-not-covers : goal.returns-then-not-covers
+returns-then-not-covers c =
+    let a = c.args in
+    find_hit (λ (r : Required). not (covered (network_in a.n a.products.now) r.cube)) (required_in a.n) c.loop-k.invariant.1 (omega arith)
+    (ap not (sym c.covers.ensures) ∙ c.if-not-covers.true)
+
+pub loop-k-preserved : goal.loop-k-preserved
+loop-k-preserved c =
+    let a = c.args in
+    let l = c.loop-k in (
+      c.covers.auto.rows ∙ l.invariant.0,
+      find_miss (λ (r : Required). not (covered (network_in a.n a.products.now) r.cube)) (required_in a.n) l.invariant.1 (omega arith)
+          (ap not (sym c.covers.ensures) ∙ c.if-not-covers.false),
+    )
+
+pub returns : goal.returns
+returns c = left_end c.loop-k.invariant.1 (omega arith)

@@ -1,0 +1,24 @@
+use mathlib.Core.Path.{◌≡◌, refl, sym, ap, ◌∙◌}
+use Prim.Native.Nat.{◌-◌}
+use native.Mathlib.Omega.{arith}
+use lib.ListN.{length, get_or, length-map}
+use Rattle.hazard.specs.Implicant.{lowest_zero}
+use Rattle.hazard.specs.Cover.{product_at}
+use Rattle.cube.specs.Mask.{cube_of, Stands}
+use Rattle.cube.specs.Entry.{cube_in, network_in}
+use Rattle.cube.proofs.Word.{stands_in}
+use Rattle.points.specs.Found.{found_of}
+use Rattle.points.proofs.Agree.{lowest_agrees}
+use Rattle.context.specs.Context.{off_in}
+use Rattle.conditions.specs.Look.{met_in}
+use Rattle.conditions.specs.Answer.{place_of}
+use Rattle.conditions.proofs.Judging.{Judging, judging_start, judging_hit, judging_miss, judging_end}
+use Rattle.conditions.proofs.Looks.{product_read}
+use borrow.Author.Rules.{rules}
+use Rattle.conditions.proofs.fault.product_fault.Given as goal
+
+abbrev pub invariant-loop-j : goal.invariant-loop-j
+invariant-loop-j l = Judging (λ k. lowest_zero l.n (off_in l.context) (product_at (network_in l.n l.products) k)) (λ k. met_in l.n l.context (product_at (network_in l.n l.products) k)) (length (network_in l.n l.products)) l.j (place_of l.met)
+
+abbrev pub decreases-loop-j : goal.decreases-loop-j
+decreases-loop-j l = length l.products - l.j

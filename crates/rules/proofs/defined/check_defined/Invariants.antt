@@ -1,0 +1,24 @@
+use mathlib.Core.Path.{◌≡◌, sym, ap, ap₂, ◌∙◌}
+use mathlib.Core.Option.{map}
+use Prim.Native.Nat.{◌+◌, ◌-◌, ◌*◌}
+use native.Mathlib.Omega.{arith}
+use Rattle.hazard.specs.Search.{first_place}
+use Rattle.hazard.specs.Transition as spec
+use Rattle.hazard.specs.Transition.{start, end, undefined_at}
+use Rattle.hazard.specs.Implicant.{lowest_zero}
+use Rattle.hazard.specs.Refusal.{refusal}
+use Rattle.cube.specs.PointSet.{in_set}
+use Rattle.points.specs.Found.{found_of}
+use Rattle.context.specs.Context.{table_in}
+use Rattle.cube.proofs.Scan.{Places, places_start, places_hit, places_miss, places_end}
+use Rattle.rules.proofs.Faults.{undefined_is}
+use borrow.Author.Rules.{rules}
+use Rattle.rules.proofs.defined.check_defined.Given as goal
+
+abbrev pub invariant-loop-t : goal.invariant-loop-t
+invariant-loop-t l =
+    Places (λ k. undefined_at l.n (table_in l.n l.context) (start l.transitions k) (end l.transitions k)) (spec.count l.transitions) l.t
+    (first_place (λ k. undefined_at l.n (table_in l.n l.context) (start l.transitions k) (end l.transitions k)) 0 (spec.count l.transitions))
+
+abbrev pub decreases-loop-t : goal.decreases-loop-t
+decreases-loop-t l = spec.count l.transitions - l.t

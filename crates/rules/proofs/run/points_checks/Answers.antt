@@ -1,0 +1,23 @@
+use mathlib.Core.Path.{◌∙◌, sym}
+use mathlib.Core.List.{[], ◌∷◌}
+use Rattle.hazard.specs.Refusal.{defined_check, rules_check}
+use Rattle.refusal.proofs.Checks.{passed, run_stays, run_passed, alone}
+use Rattle.context.specs.Context.{table_in}
+use Rattle.rules.proofs.Ready.{defined_ready}
+use borrow.Author.Rules.{rules}
+use Rattle.rules.proofs.run.points_checks.Goals as goal
+
+pub returns-in_default : goal.returns-in_default
+returns-in_default c =
+    let a = c.args in
+    let f = table_in a.n a.context.now in
+    run_stays (defined_check a.n f a.transitions.now ∷ []) (alone c.check_defined-defined.ensures) (rules_check a.n f a.transitions.now ∷ []) c.in_default.is
+
+pub check_rules-requires : goal.check_rules-requires
+check_rules-requires c = defined_ready c.requires.0 c.requires.1 (passed c.check_defined-defined.ensures c.in-Accepted.is)
+
+pub returns : goal.returns
+returns c =
+    let a = c.args in
+    let f = table_in a.n a.context.now in
+    alone c.check_rules.ensures ∙ sym (run_passed (defined_check a.n f a.transitions.now ∷ []) (alone c.check_defined-defined.ensures) (rules_check a.n f a.transitions.now ∷ []) c.in-Accepted.is)
