@@ -24,7 +24,7 @@ pub returns-then-not-covers : goal.returns-then-not-covers
 returns-then-not-covers c =
     let a = c.args in
     find_hit (λ (r : Required). not (covered (network_in a.n a.products.now) r.cube)) (required_in a.n) c.loop-k.invariant.1 (omega arith)
-    (ap not (sym c.covers.ensures) ∙ c.if-not-covers.true)
+    (ap not (sym c.covers.ensures ∙ c.if-not-covers.true))
 
 pub loop-k-preserved : goal.loop-k-preserved
 loop-k-preserved c =
@@ -32,7 +32,7 @@ loop-k-preserved c =
     let l = c.loop-k in (
       c.covers.auto.rows ∙ l.invariant.0,
       find_miss (λ (r : Required). not (covered (network_in a.n a.products.now) r.cube)) (required_in a.n) l.invariant.1 (omega arith)
-          (ap not (sym c.covers.ensures) ∙ c.if-not-covers.false),
+          (ap not (sym c.covers.ensures ∙ c.if-not-covers.false)),
     )
 
 pub returns : goal.returns

@@ -1,7 +1,6 @@
 use mathlib.Core.Path.{◌≡◌, refl, sym, ap, ◌∙◌, subst}
 use mathlib.Core.List.{[], ◌∷◌, map}
-use types.Run.{OneOf, miss}
-use denote.Enum.Declared.{tag_of}
+use native.Mathlib.Omega.{arith}
 use Rattle.hazard.specs.Verdict as spec
 use Rattle.hazard.specs.Verdict.{passed, fields_of}
 use Rattle.cube.specs.Entry.{required_in, network_in}
@@ -9,20 +8,16 @@ use Rattle.conditions.specs.declared.fault.Verdict.{Verdict}
 use Rattle.conditions.specs.declared.fault.Verdict.TheVariants.{Refused, Passed, HoldsZero, Intersects, Uncovered}
 use Rattle.conditions.specs.Answer.{unmet_of, verdict_of}
 use Rattle.conditions.proofs.Judging.{judged_stays, judged_later}
-use Rattle.conditions.specs.contracts.fault.Verdict.{the_type}
 use borrow.Author.Rules.{rules}
 use Rattle.conditions.proofs.fault.first_fault.Goals as goal
 
--- A verdict of another case is not passed: the cases are in the order of their numbers.
-case-number : (v : Verdict) → tag_of the_type v ≡ (fields_of (verdict_of v)).number
-case-number (Refused r) = refl
-case-number Passed = refl
-case-number (HoldsZero j x) = refl
-case-number (Intersects j k) = refl
-case-number (Uncovered k x) = refl
-
-unpassed : (v : Verdict) → OneOf (0 ∷ 2 ∷ 3 ∷ 4 ∷ []) (tag_of the_type v) → verdict_of v ≡ passed → ⊥
-unpassed v t q = miss (0 ∷ 2 ∷ 3 ∷ 4 ∷ []) 1 tt (subst (OneOf (0 ∷ 2 ∷ 3 ∷ 4 ∷ [])) (case-number v ∙ ap (λ (x : spec.Verdict). (fields_of x).number) q) t)
+-- A verdict of another case is not passed.
+unpassed : (v : Verdict) → (v ≡ Passed → ⊥) → verdict_of v ≡ passed → ⊥
+unpassed Passed h q = h refl
+unpassed (Refused r) h q = let z = ap (λ (x : spec.Verdict). (fields_of x).number) q in absurd (omega (arith, z))
+unpassed (HoldsZero j x) h q = let z = ap (λ (x : spec.Verdict). (fields_of x).number) q in absurd (omega (arith, z))
+unpassed (Intersects j k) h q = let z = ap (λ (x : spec.Verdict). (fields_of x).number) q in absurd (omega (arith, z))
+unpassed (Uncovered k x) h q = let z = ap (λ (x : spec.Verdict). (fields_of x).number) q in absurd (omega (arith, z))
 
 pub product_fault-fault-requires : goal.product_fault-fault-requires
 product_fault-fault-requires c = record { ready = (c.requires.ready.0, c.requires.ready.1); by_index = c.requires.by_index }
@@ -30,7 +25,7 @@ product_fault-fault-requires c = record { ready = (c.requires.ready.0, c.require
 pub returns-in_default : goal.returns-in_default
 returns-in_default c =
     let a = c.args in
-    judged_stays a.n a.context.now (map (required_in a.n) a.required.now) (network_in a.n a.products.now) c.product_fault-fault.ensures (unpassed c.product_fault-fault.result c.in_default.keys2)
+    judged_stays a.n a.context.now (map (required_in a.n) a.required.now) (network_in a.n a.products.now) c.product_fault-fault.ensures (unpassed c.product_fault-fault.result c.in_default.not-Passed)
 
 pub blocks_into-requires : goal.blocks_into-requires
 blocks_into-requires c = (c.requires.ready.0.inputs, c.requires.ready.2)

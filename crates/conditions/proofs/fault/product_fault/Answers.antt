@@ -29,14 +29,14 @@ look_is : (c : After-cube_in-c) → let j = c.loop-j.j in cube_of c.args.n c.cub
 look_is c = product_read c.args.n c.args.products.now c.loop-j.j (omega arith) (looked c)
 
 pub walk_over-requires : goal.walk_over-requires
-walk_over-requires c = (c.requires.ready.0.inputs, (looked (goal.at.walk_over-requires c).After-cube_in-c).ranges)
+walk_over-requires c = (c.requires.ready.0.inputs, (looked (goal.at.walk_over-requires c).After-cube_in-c).fits)
 
 pub lowest_zero-requires : goal.lowest_zero-requires
 lowest_zero-requires c = (c.requires.ready.0.long, c.walk_over.ensures.fits)
 
-zero_is : (c : After-lowest_zero) → let a = c.args in found_of c.lowest_zero.result ≡ lowest_zero a.n (off_in a.context.now) (product_at (network_in a.n a.products.now) c.loop-j.j)
-zero_is c =
-    c.lowest_zero.ensures ∙ lowest_agrees c.walk_over.ensures c.requires.ready.0.inputs (λ x l. refl) ∙ ap (lowest_zero c.args.n (off_in c.args.context.now)) (look_is c.?After-cube_in-c)
+zero_is : (c : After-lowest_zero) → let a = c.args in cube_of a.n c.cube_in-c.result ≡ product_at (network_in a.n a.products.now) c.loop-j.j → found_of c.lowest_zero.result ≡ lowest_zero a.n (off_in a.context.now) (product_at (network_in a.n a.products.now) c.loop-j.j)
+zero_is c e =
+    c.lowest_zero.ensures ∙ lowest_agrees c.walk_over.ensures c.requires.ready.0.inputs (λ x l. refl) ∙ ap (lowest_zero c.args.n (off_in c.args.context.now)) e
 
 pub overflow_cast-result : goal.overflow_cast-result
 overflow_cast-result c = omega (arith, c.requires.ready.1)
@@ -44,7 +44,7 @@ overflow_cast-result c = omega (arith, c.requires.ready.1)
 pub returns-in-At : goal.returns-in-At
 returns-in-At c =
     let a = c.args in
-    judging_hit c.loop-j.invariant (omega (arith, length-map a.products.now (cube_in a.n))) (sym (zero_is (goal.at.returns-in-At c).After-lowest_zero) ∙ ap found_of c.in-At.is)
+    judging_hit c.loop-j.invariant (omega (arith, length-map a.products.now (cube_in a.n))) (sym (zero_is (goal.at.returns-in-At c).After-lowest_zero (look_is (goal.at.returns-in-At c).After-cube_in-c)) ∙ ap found_of c.in-At.is)
 
 pub overflow_cast-j : goal.overflow_cast-j
 overflow_cast-j c = omega (arith, c.requires.ready.1)
@@ -52,7 +52,7 @@ overflow_cast-j c = omega (arith, c.requires.ready.1)
 pub loop-j-preserved : goal.loop-j-preserved
 loop-j-preserved c =
     let a = c.args in
-    judging_miss c.loop-j.invariant (omega (arith, length-map a.products.now (cube_in a.n))) (sym (zero_is (goal.at.loop-j-preserved c).After-lowest_zero) ∙ ap found_of c.in_default.is)
+    judging_miss c.loop-j.invariant (omega (arith, length-map a.products.now (cube_in a.n))) (sym (zero_is (goal.at.loop-j-preserved c).After-lowest_zero (look_is (goal.at.loop-j-preserved c).After-cube_in-c)) ∙ ap found_of c.in_default.is)
     (ap (met_in a.n a.context.now) (look_is (goal.at.loop-j-preserved c).After-cube_in-c)) c.met_by-met.ensures
 
 pub returns-in-At-met : goal.returns-in-At-met
