@@ -1,0 +1,12 @@
+use mathlib.Core.Path.{sym, ap}
+use Rattle.hazard.specs.Growth.{steps}
+use Rattle.expand.specs.declared.growth.Grown.{Grown}
+use Rattle.expand.specs.Answer.{grown_of}
+use borrow.Author.Rules.{rules}
+use Rattle.expand.proofs.blocking.steps_of.Goals as goal
+
+pub returns-in-Legal : goal.returns-in-Legal
+returns-in-Legal c n = sym (ap (λ (g : Grown). steps (grown_of n g)) c.in-Legal.is)
+
+pub returns-in-Blocked : goal.returns-in-Blocked
+returns-in-Blocked c n = sym (ap (λ (g : Grown). steps (grown_of n g)) c.in-Blocked.is)

@@ -1,0 +1,53 @@
+use mathlib.Core.Path.{◌≡◌, sym, ap, ◌∙◌}
+use mathlib.Core.Option.{none}
+use Prim.Native.Nat.{◌-◌}
+use native.Mathlib.Omega.{arith}
+use Rattle.hazard.specs.Implicant.{lowest_zero}
+use Rattle.hazard.specs.Growth.{grow}
+use Rattle.cube.specs.Mask.{cube_of, Clean}
+use Rattle.context.specs.Context.{off_in, privileged_of}
+use Rattle.legality.specs.Answer.{met_of}
+use Rattle.expand.proofs.Growing.{Growing, growing_start, zero-found, growing_blocked, growing_legal, growing_step, growing_end}
+use borrow.Author.Rules.{rules}
+use Rattle.expand.proofs.growth.grow.Goals as goal
+use Rattle.expand.proofs.growth.grow.Goals.{In_default}
+
+pub loop-steps-init : goal.loop-steps-init
+loop-steps-init c = (search rules, growing_start _ _ _ _)
+
+pub returns-in-At : goal.returns-in-At
+returns-in-At c =
+    let g = c.loop-steps.invariant.1 in
+    record { is = growing_blocked g (zero-found g c.walk_over.ensures c.requires.ready.inputs c.lowest_zero.ensures c.in-At.is); few = omega arith; clean = tt }
+
+-- The cube has no zero.
+no_zero : (c : In_default)
+    → let a = c.args in lowest_zero a.n (off_in a.context.now) (cube_of a.n c.loop-steps.cube) ≡ none
+no_zero c = zero-found c.loop-steps.invariant.1 c.walk_over.ensures c.requires.ready.inputs c.lowest_zero.ensures c.in_default.is
+
+pub returns-in_default-first_illegal : goal.returns-in_default-first_illegal
+returns-in_default-first_illegal c =
+    let l = c.loop-steps in
+    record {
+      is = growing_legal l.invariant.1 (omega arith) (no_zero (goal.at.returns-in_default-first_illegal c).In_default) (sym c.first_illegal.ensures ∙ ap (met_of c.args.n) c.in_default-first_illegal.is);
+      few = omega arith;
+      clean = l.invariant.0;
+    }
+
+pub loop-steps-preserved : goal.loop-steps-preserved
+loop-steps-preserved c =
+    let n = c.args.n in
+    let l = c.loop-steps in
+    let j = c.joined-cube.ensures n l.invariant.0.small in
+    let met = sym c.first_illegal.ensures ∙ ap (met_of n) c.in-At-first_illegal.is in
+    (j.fits, rw (j.is, c.point_in.ensures) (growing_step l.invariant.1 (omega arith) (no_zero (goal.at.loop-steps-preserved c).In_default) met))
+
+pub returns-in-At-lowest_zero : goal.returns-in-At-lowest_zero
+returns-in-At-lowest_zero c =
+    let g = c.loop-steps.invariant.1 in
+    record { is = growing_blocked g (zero-found g c.walk_over-2.ensures c.requires.ready.inputs c.lowest_zero-2.ensures c.in-At-lowest_zero.is); few = omega arith; clean = tt }
+
+pub returns-in-Nothing : goal.returns-in-Nothing
+returns-in-Nothing c =
+    let (k, g) = c.loop-steps.invariant in
+    record { is = growing_end g (omega arith) (zero-found g c.walk_over-2.ensures c.requires.ready.inputs c.lowest_zero-2.ensures c.in-Nothing.is); few = omega arith; clean = k }

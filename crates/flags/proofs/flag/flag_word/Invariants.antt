@@ -1,0 +1,12 @@
+use mathlib.Core.Bool.{true, false}
+use native.Mathlib.Omega.{arith}
+use lib.Count.{trailing_le}
+use Rattle.flags.proofs.Placing.{Placing, placing_start, placing_at, placing_step, placing_end}
+use borrow.Author.Rules.{rules}
+use Rattle.flags.proofs.flag.flag_word.Given as goal
+
+abbrev pub invariant-loop-left : goal.invariant-loop-left
+invariant-loop-left l = Placing false l.b l.word true l.initial.flags l.flags l.left
+
+abbrev pub decreases-loop-left : goal.decreases-loop-left
+decreases-loop-left l = l.left

@@ -1,0 +1,18 @@
+use mathlib.Core.Path.{ap, ◌∙◌}
+use Prim.Native.Nat.{ℕ, ◌%◌}
+use native.Mathlib.Omega.{arith}
+use lib.Bits.{bit_xor}
+use lib.Count.{ones}
+use lib.Dec.{ltb}
+use lib.Pow.{pow_pos}
+use Rattle.hazard.specs.Limits.{most_moving}
+use Rattle.cube.proofs.Bits.{one_shl}
+use Rattle.form.proofs.Distance.{differing}
+use borrow.Author.Rules.{rules}
+use Rattle.form.proofs.burst.is_wide.Goals as goal
+
+pub nonzero_rem-moving : goal.nonzero_rem-moving
+nonzero_rem-moving c = omega (arith, one_shl c.args.n (omega arith), pow_pos c.args.n)
+
+pub returns : goal.returns
+returns c = let a = c.args in ap (λ (p : ℕ). ltb most_moving (ones (bit_xor a.a a.b % p))) (one_shl a.n (omega arith)) ∙ ap (ltb most_moving) (differing a.n a.a a.b)
