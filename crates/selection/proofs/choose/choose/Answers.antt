@@ -5,7 +5,7 @@ use native.Mathlib.Omega.{arith}
 use lib.Dec.{T}
 use lib.ListN.{length, get_or, length-set}
 use Rattle.hazard.specs.Cube.{inside}
-use Rattle.hazard.proofs.Test.{so_not, sure}
+use Rattle.hazard.proofs.Test.{so}
 use Rattle.cube.specs.Mask.{cube_of}
 use Rattle.cube.specs.Entry.{cube_in}
 use Rattle.context.specs.Context.{off_in, privileged_of}
@@ -127,7 +127,7 @@ loop-i-preserved c =
     let a = c.args in
     let l = c.loop-i in
     let t = c.loop-i-test.true in
-    (turn_next a.n a.context.now l.invariant.0 t (choosing_skip l.invariant.0.choosing t c.if-not-flags-r.false), l.invariant.1, l.invariant.2)
+    (turn_next a.n a.context.now l.invariant.0 t (choosing_skip l.invariant.0.choosing t (so c.if-not-flags-r.false)), l.invariant.1, l.invariant.2)
 
 pub shape_of-firsts : goal.shape_of-firsts
 shape_of-firsts c = c.loop-i.invariant.0.choosing.whole ∙ sym c.requires.ready.2
