@@ -1,75 +1,77 @@
 // Every example: the text that one argument names is answered, and the output is compared with the file that the next one names.
 #![tactic(auto)]
 
-ghost use Rattle.io.specs.Counts.{IsPrefixLen};
+ghost use Rattle.std.specs.Prelude.{◌≤◌, length, IfOk};
 
 use answer_text::reply::MOST_OUTPUT;
 use quiet_text::answer::reply;
+use std::env::Env;
+use std::fs::{File, Files};
+use std::io::{Read, Write};
+use std::{io, str};
 
-// A file that is not there would read as an empty one, so it is told.
-fn tell_missing(fd: i32) {
-    if fd < 0 {
-        io::write_all(1, b"is missing, ");
+// A file's first bytes, as many as the buffer has room for. Each turn but the last brings a byte at least.
+fn read_full<F: Read>(file: &mut F, buf: &mut [u8]) -> io::Result<usize>
+    ensures { IfOk result (λ k. k ≤ length buf.new) }
+{
+    let mut done = 0;
+    for _ in 0..buf.len() {
+        let got = file.read(&mut buf[done..])?;
+        if got == 0 {
+            break;
+        }
+        done += got;
     }
+    Ok(done)
+}
+
+// The file that a name stands for. One that is not there would read as an empty one, so it is told.
+fn named_into<R: Files + Print>(rt: &R, name: &str, buf: &mut [u8]) -> io::Result<usize>
+    ensures { IfOk result (λ k. k ≤ length buf.new) }
+{
+    print!(rt; "{name} ")?;
+    let Ok(mut file) = File::open(rt, name) else {
+        print!(rt; "is missing, ")?;
+        return Ok(0);
+    };
+    read_full(&mut file, buf)
 }
 
 // The file that argument i names; its name is printed.
-fn file_into(i: usize, buf: &mut [u8]) -> usize
-    ensures { IsPrefixLen result buf.new }
+fn file_into<R: Env + Files + Print>(rt: &R, i: usize, buf: &mut [u8]) -> io::Result<usize>
+    ensures { IfOk result (λ k. k ≤ length buf.new) }
 {
-    let mut name = io::buffer();
-    let n = os::arg(i, &mut name);
-    io::write_all(1, &name[..n]);
-    io::write_all(1, b" ");
-    let fd = os::open_read(&name[..n]);
-    tell_missing(fd);
-    let k = io::read_full(fd, buf);
-    libc::close(fd);
-    k
+    let mut name = [0u8; 4096];
+    let n = rt.arg(i, &mut name).unwrap_or(0);
+    named_into(rt, str::from_utf8(&name[..n]).unwrap_or(""), buf)
 }
 
-fn is_same(a: &[u8], b: &[u8]) -> bool {
-    if a.len() != b.len() {
-        return false;
-    }
-    let mut i = 0;
-    while i < a.len() {
-        if a[i] != b[i] {
-            return false;
-        }
-        i += 1;
-    }
-    true
-}
-
-fn judge(output: &[u8], expected: &[u8]) {
-    if is_same(output, expected) {
-        io::write_all(1, b"as expected\n");
+fn judge<R: Print>(rt: &R, output: &[u8], expected: &[u8]) -> io::Result<()> {
+    if output == expected {
+        println!(rt; "as expected")
     } else {
-        io::write_all(1, b"not as expected: ");
-        io::write_all(1, output);
+        print!(rt; "not as expected: ")?;
+        io::writer(rt).write_all(output)
     }
 }
 
 // The example whose text and output two arguments name.
-fn example(i: usize, j: usize) {
-    let mut text = io::large_buffer();
-    let k = file_into(i, &mut text);
-    let mut expected = io::large_buffer();
-    let e = file_into(j, &mut expected);
+fn example<R: Env + Files + Print>(rt: &R, i: usize, j: usize) -> io::Result<()> {
+    let mut text = [0u8; 65536];
+    let k = file_into(rt, i, &mut text)?;
+    let mut expected = [0u8; 65536];
+    let e = file_into(rt, j, &mut expected)?;
     let mut out = [0u8; MOST_OUTPUT];
     let count = reply(&text[..k], &mut out);
-    judge(&out[0..count], &expected[..e]);
+    judge(rt, &out[0..count], &expected[..e])
 }
 
 // Room for 200 examples; an argument that is not there is no example.
-fn main() {
-    let count = os::arg_count();
-    let mut i = 1;
-    while i < 400 {
-        if i < count {
-            example(i, i + 1);
+fn main(rt: HostRuntime) -> io::Result<()> {
+    for i in 0..200 {
+        if rt.arg(2 * i + 1, &mut [0u8; 4096]).is_ok() {
+            example(&rt, 2 * i + 1, 2 * i + 2)?;
         }
-        i += 2;
     }
+    Ok(())
 }
