@@ -6,7 +6,7 @@ use mathlib.Core.Option.{Option, none, some, some-injective}
 use Prim.Native.Nat.{ℕ, zero, suc, ◌+◌, ◌≤◌, ◌<◌}
 use native.Mathlib.Omega.{arith}
 use lib.Dec.{T}
-use lib.ListN.{length, get_or, take, length-take, length-append, get_or-append}
+use lib.ListN.{length, take, length-take, length-append, get_or-append}
 use lib.Seq.{get_or-take, take-append_seam, take-append-le, get_or-append_seam}
 use Rattle.hazard.specs.Cube.{Cube, inside}
 use Rattle.hazard.specs.Cover.{Network, product_at, covered}

@@ -1,4 +1,3 @@
-use borrow.Author.Rules.{rules}
 use Rattle.refusal.specs.Answer.{refusal_of}
 use Rattle.packing.proofs.Exact.{refusal_exact}
 use Rattle.packing.proofs.packed_refusal.Goals as goal

@@ -1,5 +1,4 @@
 use mathlib.Core.Path.{subst⁻¹}
-use borrow.Author.Rules.{rules}
 use Rattle.hazard.specs.Minimal.{Promise}
 use Rattle.packing.proofs.Exact.{promise_fits}
 use Rattle.quiet_c.proofs.quiet_minimise.Goals as goal

@@ -1,4 +1,3 @@
-use borrow.Author.Rules.{rules}
 use Rattle.conditions.specs.Answer.{verdict_of}
 use Rattle.packing.proofs.Exact.{verified-fits}
 use Rattle.quiet_c.proofs.quiet_verify.Goals as goal

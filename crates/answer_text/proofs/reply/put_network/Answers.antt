@@ -1,5 +1,4 @@
 use native.Mathlib.Omega.{arith}
-use borrow.Author.Rules.{rules}
 use Rattle.writing.proofs.Writing.{number_next}
 use Rattle.answer_text.proofs.Replies.{lines_most, network_wrote}
 use Rattle.answer_text.proofs.reply.put_network.Goals as goal

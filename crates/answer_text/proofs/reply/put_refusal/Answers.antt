@@ -1,4 +1,3 @@
-use borrow.Author.Rules.{rules}
 use Rattle.refusal.specs.Answer.{refusal_of}
 use Rattle.answer_text.proofs.Replies.{refusal_wrote}
 use Rattle.answer_text.proofs.reply.put_refusal.Goals as goal

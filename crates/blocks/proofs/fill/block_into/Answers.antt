@@ -1,8 +1,8 @@
 use mathlib.Core.Path.{◌≡◌}
-use Prim.Native.Nat.{ℕ, suc, ◌+◌, ◌-◌, ◌≤◌, ◌<◌}
+use Prim.Native.Nat.{ℕ, suc, ◌+◌, ◌<◌}
 use lib.ListN.{length, length-set}
 use native.Mathlib.Omega.{arith}
-use Rattle.blocks.specs.Blocks.{run_of, BlockFilled}
+use Rattle.blocks.specs.Blocks.{run_of}
 use Rattle.blocks.proofs.Places.{run_room}
 use Rattle.blocks.proofs.Storing.{block_start, block_step}
 use borrow.Author.Rules.{rules}

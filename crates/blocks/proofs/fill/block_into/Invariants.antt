@@ -1,11 +1,5 @@
-use mathlib.Core.Path.{◌≡◌}
-use Prim.Native.Nat.{ℕ, suc, ◌+◌, ◌-◌, ◌≤◌, ◌<◌}
-use lib.ListN.{length, length-set}
-use native.Mathlib.Omega.{arith}
-use Rattle.blocks.specs.Blocks.{run_of, BlockFilled}
-use Rattle.blocks.proofs.Places.{run_room}
-use Rattle.blocks.proofs.Storing.{block_start, block_step}
-use borrow.Author.Rules.{rules}
+use Prim.Native.Nat.{◌-◌, ◌≤◌}
+use Rattle.blocks.specs.Blocks.{BlockFilled}
 use Rattle.blocks.proofs.fill.block_into.Given as goal
 
 abbrev pub invariant-loop-i : goal.invariant-loop-i

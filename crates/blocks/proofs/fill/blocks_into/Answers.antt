@@ -1,9 +1,6 @@
-use mathlib.Core.Path.{◌≡◌, refl, ◌∙◌}
-use Prim.Native.Nat.{◌≤◌, ◌-◌, ◌*◌}
-use lib.ListN.{length}
+use mathlib.Core.Path.{refl, ◌∙◌}
 use native.Mathlib.Omega.{arith}
-use Rattle.blocks.specs.Blocks.{stride}
-use Rattle.blocks.proofs.Storing.{Filled, filled-start, filled_step, filled-end}
+use Rattle.blocks.proofs.Storing.{filled-start, filled_step, filled-end}
 use borrow.Author.Rules.{rules}
 use Rattle.blocks.proofs.fill.blocks_into.Goals as goal
 

@@ -1,10 +1,8 @@
-use mathlib.Core.Path.{◌≡◌, refl, ◌∙◌}
+use mathlib.Core.Path.{◌≡◌}
 use Prim.Native.Nat.{◌≤◌, ◌-◌, ◌*◌}
 use lib.ListN.{length}
-use native.Mathlib.Omega.{arith}
 use Rattle.blocks.specs.Blocks.{stride}
-use Rattle.blocks.proofs.Storing.{Filled, filled-start, filled_step, filled-end}
-use borrow.Author.Rules.{rules}
+use Rattle.blocks.proofs.Storing.{Filled}
 use Rattle.blocks.proofs.fill.blocks_into.Given as goal
 
 abbrev pub invariant-loop-b : goal.invariant-loop-b

@@ -1,7 +1,6 @@
 use Prim.Native.Nat.{◌+◌, ◌*◌}
 use native.Mathlib.Omega.{arith}
 use Rattle.blocks.proofs.Places.{run_fits}
-use borrow.Author.Rules.{rules}
 use Rattle.blocks.proofs.word.run_of.Goals as goal
 
 pub overflow_mul-result-2 : goal.overflow_mul-result-2

@@ -1,4 +1,4 @@
-use Rattle.std.proofs.Common.{◌-◌, ◌≤◌, rules}
+use Rattle.std.proofs.Common.{◌-◌, ◌≤◌}
 use Rattle.brute_force.proofs.bytes.table_of.Given as goal
 
 abbrev pub invariant-loop-x : goal.invariant-loop-x

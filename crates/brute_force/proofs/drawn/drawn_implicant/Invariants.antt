@@ -1,4 +1,4 @@
-use Rattle.std.proofs.Common.{◌-◌, ◌≤◌, rules}
+use Rattle.std.proofs.Common.{◌-◌, ◌≤◌}
 use Rattle.brute_force.proofs.drawn.drawn_implicant.Given as goal
 
 abbrev pub invariant-loop : goal.invariant-loop

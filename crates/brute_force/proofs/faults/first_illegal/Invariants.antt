@@ -1,4 +1,4 @@
-use Rattle.std.proofs.Common.{◌-◌, ◌≤◌, rules}
+use Rattle.std.proofs.Common.{◌-◌, ◌≤◌}
 use Rattle.brute_force.proofs.faults.first_illegal.Given as goal
 
 abbrev pub invariant-loop-k : goal.invariant-loop-k

@@ -1,4 +1,4 @@
-use Rattle.std.proofs.Common.{◌-◌, ◌≤◌, rules}
+use Rattle.std.proofs.Common.{◌-◌, ◌≤◌}
 use Rattle.brute_force.proofs.faults.inside_legal.Given as goal
 
 abbrev pub invariant-loop-code : goal.invariant-loop-code

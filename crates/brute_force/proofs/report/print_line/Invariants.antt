@@ -1,4 +1,4 @@
-use Rattle.std.proofs.Common.{◌-◌, ◌≤◌, length, rules}
+use Rattle.std.proofs.Common.{◌-◌, ◌≤◌, length}
 use Rattle.brute_force.proofs.report.print_line.Given as goal
 
 abbrev pub invariant-loop-i : goal.invariant-loop-i

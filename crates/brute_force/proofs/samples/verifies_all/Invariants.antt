@@ -1,4 +1,4 @@
-use Rattle.std.proofs.Common.{◌-◌, ◌≤◌, rules}
+use Rattle.std.proofs.Common.{◌-◌, ◌≤◌}
 use Rattle.brute_force.proofs.samples.verifies_all.Given as goal
 
 abbrev pub invariant-loop-set : goal.invariant-loop-set

@@ -1,4 +1,4 @@
-use Rattle.std.proofs.Common.{◌-◌, ◌≤◌, rules}
+use Rattle.std.proofs.Common.{◌-◌, ◌≤◌}
 use Rattle.brute_force.proofs.wires.all_allowed.Given as goal
 
 abbrev pub invariant-loop-k : goal.invariant-loop-k

@@ -11,7 +11,6 @@ use Rattle.context.specs.Context.{table_in, Planes}
 use Rattle.refusal.specs.Answer.{checked_of}
 use Rattle.refusal.proofs.Checks.{passed, refused_by}
 use Rattle.checks.proofs.Checks.{formed_planes, formed_table, formed_ready, stored_ready, problem_stored}
-use borrow.Author.Rules.{rules}
 use Rattle.checks.proofs.check.problem_into.Goals as goal
 use Rattle.checks.proofs.check.problem_into.Goals.{After-planes_into, After-points_checks}
 

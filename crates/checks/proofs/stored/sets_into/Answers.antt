@@ -6,7 +6,6 @@ use native.Mathlib.Omega.{arith}
 use lib.ListN.{take}
 use Rattle.sets.proofs.Gather.{held_all}
 use Rattle.cube.specs.Entry.{privileged_in}
-use borrow.Author.Rules.{rules}
 use Rattle.checks.proofs.stored.sets_into.Goals as goal
 
 pub returns : goal.returns

@@ -5,7 +5,6 @@ use Rattle.cube.specs.Entry.{required_in}
 use Rattle.context.specs.Context.{table_in}
 use Rattle.sets.specs.Held.{Held}
 use Rattle.sets.proofs.Leaving.{left_points}
-use borrow.Author.Rules.{rules}
 use Rattle.checks.proofs.stored.store_required.Goals as goal
 
 pub unvisited_into-requires : goal.unvisited_into-requires

@@ -7,9 +7,9 @@ use Rattle.hazard.specs.Limits.{most_required}
 use Rattle.cube.specs.Mask.{cube_of}
 use Rattle.cube.specs.Entry.{cube_in}
 use Rattle.flags.proofs.Flags.{flag_is, product_test}
-use Rattle.choice.proofs.Lending.{Lent, lent_start, lent_low, lent_room, lent_wide, lent_fits, lent_same, lent_set, lent_rows, lent_next}
+use Rattle.choice.proofs.Lending.{lent_start, lent_low, lent_room, lent_wide, lent_fits, lent_same, lent_set, lent_rows, lent_next}
 use Rattle.choice.proofs.Lowering.{noted-low}
-use Rattle.choice.proofs.Keeping.{Keeping, keeping_start, keeping_turn, keeping_skip, keeping_keep, keeping_end}
+use Rattle.choice.proofs.Keeping.{keeping_start, keeping_turn, keeping_skip, keeping_keep, keeping_end}
 use Rattle.choice.proofs.keep.irredundant_from.Goals as goal
 use Rattle.choice.proofs.keep.irredundant_from.Goals.{At-loop-j}
 

@@ -3,8 +3,7 @@ use Prim.Native.Nat.{◌-◌, ◌<◌}
 use native.Mathlib.Omega.{arith}
 use lib.ListN.{get_or}
 use Rattle.hazard.specs.Limits.{most_required}
-use Rattle.choice.proofs.Lowering.{Lowering, lowering_start, lowering_step, lowering_end}
-use borrow.Author.Rules.{rules}
+use Rattle.choice.proofs.Lowering.{lowering_start, lowering_step, lowering_end}
 use Rattle.choice.proofs.keep.lowest_into.Goals as goal
 use Rattle.choice.proofs.keep.lowest_into.Goals.{After-shared_slice_known-1}
 

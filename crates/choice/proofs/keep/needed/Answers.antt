@@ -5,7 +5,6 @@ use Rattle.hazard.specs.Search.{found, first}
 use lib.ListN.{length}
 use native.Mathlib.Omega.{arith}
 use mathlib.Core.Path.{sym, ◌∙◌}
-use borrow.Author.Rules.{rules}
 use Rattle.choice.proofs.keep.needed.Goals as goal
 
 pub returns-then-needed_at : goal.returns-then-needed_at

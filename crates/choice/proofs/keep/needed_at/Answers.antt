@@ -1,7 +1,6 @@
 use mathlib.Core.Path.{sym}
 use borrow.Author.Tests.{ne_eqb, eq-eqb}
 use Rattle.cube.proofs.Scan.{and-true, and-false}
-use borrow.Author.Rules.{rules}
 use Rattle.choice.proofs.keep.needed_at.Goals as goal
 
 pub returns-then-firsts-i : goal.returns-then-firsts-i

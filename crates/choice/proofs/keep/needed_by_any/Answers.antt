@@ -1,11 +1,7 @@
 use mathlib.Core.Path.{ap, sym, ◌∙◌}
-use Prim.Native.Nat.{◌-◌}
 use native.Mathlib.Omega.{arith}
-use lib.ListN.{length}
-use Rattle.hazard.specs.Search.{found, first}
-use Rattle.cube.proofs.Scan.{Scan, scan_start, scan_hit, scan_miss, scan_end}
-use Rattle.choice.specs.Keep.{needed_in}
-use borrow.Author.Rules.{rules}
+use Rattle.hazard.specs.Search.{found}
+use Rattle.cube.proofs.Scan.{scan_start, scan_hit, scan_miss, scan_end}
 use Rattle.choice.proofs.keep.needed_by_any.Goals as goal
 
 pub loop-i-init : goal.loop-i-init

@@ -1,11 +1,8 @@
-use mathlib.Core.Path.{ap, sym, ◌∙◌}
 use Prim.Native.Nat.{◌-◌}
-use native.Mathlib.Omega.{arith}
 use lib.ListN.{length}
-use Rattle.hazard.specs.Search.{found, first}
-use Rattle.cube.proofs.Scan.{Scan, scan_start, scan_hit, scan_miss, scan_end}
+use Rattle.hazard.specs.Search.{first}
+use Rattle.cube.proofs.Scan.{Scan}
 use Rattle.choice.specs.Keep.{needed_in}
-use borrow.Author.Rules.{rules}
 use Rattle.choice.proofs.keep.needed_by_any.Given as goal
 
 abbrev pub invariant-loop-i : goal.invariant-loop-i

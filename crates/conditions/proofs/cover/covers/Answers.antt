@@ -3,7 +3,6 @@ use Rattle.cube.specs.Mask.{cube_of}
 use Rattle.cube.specs.Entry.{cube_in}
 use native.Mathlib.Omega.{arith}
 use mathlib.Core.Path.{◌≡◌, ◌∙◌}
-use borrow.Author.Rules.{rules}
 use Rattle.conditions.proofs.cover.covers.Goals as goal
 
 pub returns : goal.returns

@@ -1,15 +1,10 @@
-use mathlib.Core.Path.{◌≡◌, refl, sym, ap, ◌∙◌}
+use mathlib.Core.Path.{◌≡◌}
 use mathlib.Core.List.{map}
 use Prim.Native.Nat.{◌-◌}
-use native.Mathlib.Omega.{arith}
 use lib.ListN.{length}
-use borrow.Author.Rules.{rules}
-use mathlib.Core.Bool.{not}
-use Rattle.hazard.specs.Sets.{Required}
-use Rattle.hazard.specs.Cover.{covered}
 use Rattle.hazard.specs.Verdict.{fault_b}
 use Rattle.cube.specs.Entry.{required_in, network_in}
-use Rattle.cube.proofs.Left.{Left, left-start, left_end, find_hit, find_miss}
+use Rattle.cube.proofs.Left.{Left}
 use Rattle.conditions.proofs.fault.fault_b.Given as goal
 
 abbrev pub invariant-loop-k : goal.invariant-loop-k

@@ -1,5 +1,5 @@
-use mathlib.Core.Path.{◌≡◌, refl, sym, ap, ◌∙◌, subst}
-use mathlib.Core.List.{[], ◌∷◌, map}
+use mathlib.Core.Path.{◌≡◌, refl, sym, ap, ◌∙◌}
+use mathlib.Core.List.{map}
 use native.Mathlib.Omega.{arith}
 use Rattle.hazard.specs.Verdict as spec
 use Rattle.hazard.specs.Verdict.{passed, fields_of}

@@ -1,6 +1,5 @@
 use mathlib.Core.Path.{sym, ap, ◌∙◌}
 use Rattle.legality.specs.Answer.{met_of}
-use borrow.Author.Rules.{rules}
 use Rattle.conditions.proofs.fault.met_by.Goals as goal
 
 pub returns-in-At : goal.returns-in-At

@@ -1,7 +1,6 @@
 use mathlib.Core.Path.{◌≡◌, refl, sym, ap, ◌∙◌}
-use Prim.Native.Nat.{◌-◌}
 use native.Mathlib.Omega.{arith}
-use lib.ListN.{length, get_or, length-map}
+use lib.ListN.{get_or, length-map}
 use Rattle.hazard.specs.Implicant.{lowest_zero}
 use Rattle.hazard.specs.Cover.{product_at}
 use Rattle.cube.specs.Mask.{cube_of, Stands}
@@ -12,9 +11,8 @@ use Rattle.points.proofs.Agree.{lowest_agrees}
 use Rattle.context.specs.Context.{off_in}
 use Rattle.conditions.specs.Look.{met_in}
 use Rattle.conditions.specs.Answer.{place_of}
-use Rattle.conditions.proofs.Judging.{Judging, judging_start, judging_hit, judging_miss, judging_end}
+use Rattle.conditions.proofs.Judging.{judging_start, judging_hit, judging_miss, judging_end}
 use Rattle.conditions.proofs.Looks.{product_read}
-use borrow.Author.Rules.{rules}
 use Rattle.conditions.proofs.fault.product_fault.Goals as goal
 use Rattle.conditions.proofs.fault.product_fault.Goals.{After-cube_in-c, After-lowest_zero}
 

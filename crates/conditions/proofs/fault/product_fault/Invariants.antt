@@ -1,20 +1,12 @@
-use mathlib.Core.Path.{◌≡◌, refl, sym, ap, ◌∙◌}
 use Prim.Native.Nat.{◌-◌}
-use native.Mathlib.Omega.{arith}
-use lib.ListN.{length, get_or, length-map}
+use lib.ListN.{length}
 use Rattle.hazard.specs.Implicant.{lowest_zero}
 use Rattle.hazard.specs.Cover.{product_at}
-use Rattle.cube.specs.Mask.{cube_of, Stands}
-use Rattle.cube.specs.Entry.{cube_in, network_in}
-use Rattle.cube.proofs.Word.{stands_in}
-use Rattle.points.specs.Found.{found_of}
-use Rattle.points.proofs.Agree.{lowest_agrees}
+use Rattle.cube.specs.Entry.{network_in}
 use Rattle.context.specs.Context.{off_in}
 use Rattle.conditions.specs.Look.{met_in}
 use Rattle.conditions.specs.Answer.{place_of}
-use Rattle.conditions.proofs.Judging.{Judging, judging_start, judging_hit, judging_miss, judging_end}
-use Rattle.conditions.proofs.Looks.{product_read}
-use borrow.Author.Rules.{rules}
+use Rattle.conditions.proofs.Judging.{Judging}
 use Rattle.conditions.proofs.fault.product_fault.Given as goal
 
 abbrev pub invariant-loop-j : goal.invariant-loop-j

@@ -3,7 +3,6 @@ use Prim.Native.Nat.{ℕ, ◌+◌, ◌-◌}
 use native.Mathlib.Omega.{arith}
 use lib.ListN.{take, drop}
 use Rattle.context.specs.Places.{privileged_at, count_in}
-use borrow.Author.Rules.{rules}
 use Rattle.context.proofs.places.privileged.Goals as goal
 
 pub returns : goal.returns

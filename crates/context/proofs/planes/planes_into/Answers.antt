@@ -1,10 +1,9 @@
 use mathlib.Core.Path.{◌≡◌, ◌∙◌}
-use Prim.Native.Nat.{◌+◌, ◌-◌, ◌≤◌}
+use Prim.Native.Nat.{◌+◌}
 use native.Mathlib.Omega.{arith}
-use lib.ListN.{length, set, length-set}
-use Rattle.context.specs.Places.{words, zeros_at, ones_at}
-use Rattle.context.proofs.PlaneWord.{Filled, filled_more, filled-planes}
-use borrow.Author.Rules.{rules}
+use lib.ListN.{set, length-set}
+use Rattle.context.specs.Places.{zeros_at, ones_at}
+use Rattle.context.proofs.PlaneWord.{filled_more, filled-planes}
 use Rattle.context.proofs.planes.planes_into.Goals as goal
 
 pub loop-w-init : goal.loop-w-init

@@ -1,10 +1,8 @@
-use mathlib.Core.Path.{◌≡◌, ◌∙◌}
-use Prim.Native.Nat.{◌+◌, ◌-◌, ◌≤◌}
-use native.Mathlib.Omega.{arith}
-use lib.ListN.{length, set, length-set}
-use Rattle.context.specs.Places.{words, zeros_at, ones_at}
-use Rattle.context.proofs.PlaneWord.{Filled, filled_more, filled-planes}
-use borrow.Author.Rules.{rules}
+use mathlib.Core.Path.{◌≡◌}
+use Prim.Native.Nat.{◌-◌, ◌≤◌}
+use lib.ListN.{length}
+use Rattle.context.specs.Places.{words}
+use Rattle.context.proofs.PlaneWord.{Filled}
 use Rattle.context.proofs.planes.planes_into.Given as goal
 
 abbrev pub invariant-loop-w : goal.invariant-loop-w

@@ -1,7 +1,6 @@
 use native.Mathlib.Omega.{arith}
 use lib.Dec.{eqb}
 use Rattle.context.proofs.PlaneWord.{one-few}
-use borrow.Author.Rules.{rules}
 use Rattle.context.proofs.planes.prepended.Goals as goal
 
 pub overflow_add-result : goal.overflow_add-result

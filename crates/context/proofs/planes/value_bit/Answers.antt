@@ -2,7 +2,6 @@ use mathlib.Core.Path.{◌≡◌, refl}
 use mathlib.Core.Bool.{Bool, true, false, cond}
 use mir.Val.{bool_byte}
 use lib.Dec.{eqb}
-use borrow.Author.Rules.{rules}
 use Rattle.context.proofs.planes.value_bit.Goals as goal
 
 -- A flag as a number.

@@ -3,7 +3,6 @@ use native.Mathlib.Omega.{arith}
 use Rattle.points.specs.PointWord.{WordOf}
 use Rattle.context.specs.Planes.{valued}
 use Rattle.context.proofs.PlaneWord.{plane_word_lem, plane_empty}
-use borrow.Author.Rules.{rules}
 use Rattle.context.proofs.planes.values_at.Goals as goal
 
 pub returns-then-size-x : goal.returns-then-size-x

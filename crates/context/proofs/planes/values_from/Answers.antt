@@ -1,6 +1,6 @@
 use mathlib.Core.Path.{◌≡◌, ap, ◌∙◌}
 use mathlib.Core.Bool.{cond}
-use Prim.Native.Nat.{ℕ, ◌+◌, ◌-◌, ◌^◌, ◌≤◌, ◌<◌}
+use Prim.Native.Nat.{ℕ, ◌+◌, ◌-◌, ◌^◌, ◌<◌}
 use native.Mathlib.Nat.{sub-zero, lt_of_lt_of_le}
 use native.Mathlib.Omega.{arith}
 use lib.Dec.{eqb}
@@ -10,7 +10,6 @@ use Rattle.hazard.specs.Transition.{value}
 use Rattle.cube.proofs.Scan.{get_d_any}
 use Rattle.context.specs.Planes.{plane_word}
 use Rattle.context.proofs.PlaneWord.{plane_none, plane_lt, plane_step}
-use borrow.Author.Rules.{rules}
 use Rattle.context.proofs.planes.values_from.Goals as goal
 
 pub loop-i-init : goal.loop-i-init

@@ -1,9 +1,7 @@
 use mathlib.Core.Path.{refl, ◌∙◌}
-use Prim.Native.Nat.{◌-◌, ◌≤◌}
 use native.Mathlib.Omega.{arith}
-use Rattle.cube.proofs.Sweep.{Sweep, sweep_start, sweep_step}
-use Rattle.context.proofs.Values.{neither_word, dont_cares}
-use borrow.Author.Rules.{rules}
+use Rattle.cube.proofs.Sweep.{sweep_start, sweep_step}
+use Rattle.context.proofs.Values.{dont_cares}
 use Rattle.context.proofs.value.dont_cares_into.Goals as goal
 
 pub loop-w-init : goal.loop-w-init

@@ -1,9 +1,6 @@
-use mathlib.Core.Path.{refl, ◌∙◌}
 use Prim.Native.Nat.{◌-◌, ◌≤◌}
-use native.Mathlib.Omega.{arith}
-use Rattle.cube.proofs.Sweep.{Sweep, sweep_start, sweep_step}
-use Rattle.context.proofs.Values.{neither_word, dont_cares}
-use borrow.Author.Rules.{rules}
+use Rattle.cube.proofs.Sweep.{Sweep}
+use Rattle.context.proofs.Values.{neither_word}
 use Rattle.context.proofs.value.dont_cares_into.Given as goal
 
 abbrev pub invariant-loop-w : goal.invariant-loop-w

@@ -7,7 +7,6 @@ use Rattle.cube.specs.PointSet.{in_set}
 use Rattle.points.specs.Walk.{lowest_on}
 use Rattle.context.specs.Places.{zeros_at}
 use Rattle.context.proofs.Parts.{part_length}
-use borrow.Author.Rules.{rules}
 use Rattle.context.proofs.value.lowest_zero.Goals as goal
 
 pub lowest_on-requires : goal.lowest_on-requires

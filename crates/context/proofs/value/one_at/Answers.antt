@@ -9,7 +9,6 @@ use Rattle.hazard.specs.Cube.{bit}
 use Rattle.cube.proofs.Bits.{bit_case}
 use Rattle.context.specs.Places.{ones_at}
 use Rattle.context.proofs.Parts.{part_word}
-use borrow.Author.Rules.{rules}
 use Rattle.context.proofs.value.one_at.Goals as goal
 
 pub returns : goal.returns

@@ -1,4 +1,4 @@
-use Rattle.std.proofs.Common.{◌-◌, ◌≤◌, rules}
+use Rattle.std.proofs.Common.{◌-◌, ◌≤◌}
 use Rattle.edges.proofs.case.run_all.Given as goal
 
 abbrev pub invariant-loop : goal.invariant-loop

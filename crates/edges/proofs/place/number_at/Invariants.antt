@@ -1,4 +1,4 @@
-use Rattle.std.proofs.Common.{◌-◌, ◌≤◌, length, rules}
+use Rattle.std.proofs.Common.{◌-◌, ◌≤◌, length}
 use Rattle.edges.proofs.place.number_at.Given as goal
 
 abbrev pub invariant-loop-at : goal.invariant-loop-at

@@ -1,4 +1,4 @@
-use Rattle.std.proofs.Common.{◌≡◌, ◌-◌, ◌≤◌, length, rules}
+use Rattle.std.proofs.Common.{◌≡◌, ◌-◌, ◌≤◌, length}
 use Rattle.edges.proofs.runs.numbers_into.Given as goal
 
 abbrev pub invariant-loop : goal.invariant-loop

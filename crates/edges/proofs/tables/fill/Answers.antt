@@ -1,4 +1,4 @@
-use Rattle.std.proofs.Common.{◌≡◌, ◌-◌, ◌≤◌, length, arith, length-set, rules}
+use Rattle.std.proofs.Common.{arith, length-set}
 use Rattle.edges.proofs.tables.fill.Goals as goal
 
 pub loop-x-preserved : goal.loop-x-preserved

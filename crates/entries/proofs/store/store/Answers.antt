@@ -2,7 +2,6 @@ use native.Mathlib.Omega.{arith}
 use Rattle.cube.proofs.Word.{packed_clean}
 use Rattle.entries.proofs.Word.{word-required}
 use Rattle.entries.proofs.Filling.{stored_one, stored_past}
-use borrow.Author.Rules.{rules}
 use Rattle.entries.proofs.store.store.Goals as goal
 
 pub returns-then-out-at : goal.returns-then-out-at

@@ -1,4 +1,3 @@
-use borrow.Author.Rules.{rules}
 use Rattle.expand.proofs.blocking.refusal_of.Goals as goal
 
 pub returns : goal.returns

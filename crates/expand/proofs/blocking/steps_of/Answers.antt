@@ -2,7 +2,6 @@ use mathlib.Core.Path.{sym, ap}
 use Rattle.hazard.specs.Growth.{steps}
 use Rattle.expand.specs.declared.growth.Grown.{Grown}
 use Rattle.expand.specs.Answer.{grown_of}
-use borrow.Author.Rules.{rules}
 use Rattle.expand.proofs.blocking.steps_of.Goals as goal
 
 pub returns-in-Legal : goal.returns-in-Legal

@@ -1,7 +1,6 @@
 use mathlib.Core.Path.{sym, ap}
 use Rattle.expand.specs.declared.growth.Grown.{Grown}
 use Rattle.expand.specs.Answer.{grown_of, zero_of}
-use borrow.Author.Rules.{rules}
 use Rattle.expand.proofs.blocking.zero_of.Goals as goal
 
 pub returns-in-Legal : goal.returns-in-Legal

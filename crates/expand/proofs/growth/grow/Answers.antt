@@ -1,13 +1,11 @@
 use mathlib.Core.Path.{◌≡◌, sym, ap, ◌∙◌}
 use mathlib.Core.Option.{none}
-use Prim.Native.Nat.{◌-◌}
 use native.Mathlib.Omega.{arith}
 use Rattle.hazard.specs.Implicant.{lowest_zero}
-use Rattle.hazard.specs.Growth.{grow}
-use Rattle.cube.specs.Mask.{cube_of, Clean}
-use Rattle.context.specs.Context.{off_in, privileged_of}
+use Rattle.cube.specs.Mask.{cube_of}
+use Rattle.context.specs.Context.{off_in}
 use Rattle.legality.specs.Answer.{met_of}
-use Rattle.expand.proofs.Growing.{Growing, growing_start, zero-found, growing_blocked, growing_legal, growing_step, growing_end}
+use Rattle.expand.proofs.Growing.{growing_start, zero-found, growing_blocked, growing_legal, growing_step, growing_end}
 use borrow.Author.Rules.{rules}
 use Rattle.expand.proofs.growth.grow.Goals as goal
 use Rattle.expand.proofs.growth.grow.Goals.{In_default}

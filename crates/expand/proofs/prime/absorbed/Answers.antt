@@ -1,6 +1,5 @@
 use Rattle.cube.specs.Mask.{cube_of}
 use Rattle.expand.proofs.Outcome.{kept}
-use borrow.Author.Rules.{rules}
 use Rattle.expand.proofs.prime.absorbed.Goals as goal
 
 pub grow-requires : goal.grow-requires

@@ -1,10 +1,8 @@
 use Prim.Native.Nat.{◌-◌}
-use native.Mathlib.Omega.{arith}
 use Rattle.hazard.specs.Expansion.{expand}
 use Rattle.cube.specs.Mask.{cube_of, Clean}
 use Rattle.context.specs.Context.{off_in, privileged_of}
-use Rattle.expand.proofs.Raising.{Raising, raising_start, raising_step, raising_end}
-use borrow.Author.Rules.{rules}
+use Rattle.expand.proofs.Raising.{Raising}
 use Rattle.expand.proofs.prime.expanded.Given as goal
 
 abbrev pub invariant-loop-i : goal.invariant-loop-i

@@ -1,6 +1,5 @@
 use mathlib.Core.Path.{refl, subst}
 use Rattle.expand.specs.Answer.{LegalClean}
-use borrow.Author.Rules.{rules}
 use Rattle.expand.proofs.prime.grown_or.Goals as goal
 
 pub returns-in-Legal : goal.returns-in-Legal

@@ -2,7 +2,6 @@ use mathlib.Core.Path.{sym, ◌∙◌}
 use Rattle.cube.specs.Mask.{cube_of}
 use Rattle.expand.proofs.Outcome.{kept}
 use Rattle.expand.proofs.Raising.{absent_digit, literal_digit}
-use borrow.Author.Rules.{rules}
 use Rattle.expand.proofs.prime.raise.Goals as goal
 
 pub returns-then-bit_of-eq0 : goal.returns-then-bit_of-eq0

@@ -1,8 +1,5 @@
-use Prim.Native.Nat.{◌-◌}
-use lib.ListN.{length}
 use native.Mathlib.Omega.{arith}
-use Rattle.flags.proofs.Placing.{Placed, placed_start, placed_word, placed_step, placed_end}
-use borrow.Author.Rules.{rules}
+use Rattle.flags.proofs.Placing.{placed_start, placed_word, placed_step, placed_end}
 use Rattle.flags.proofs.first.note.Goals as goal
 
 pub loop-b-init : goal.loop-b-init

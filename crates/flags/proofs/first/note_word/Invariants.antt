@@ -1,7 +1,4 @@
-use native.Mathlib.Omega.{arith}
-use lib.Count.{trailing_le}
-use Rattle.flags.proofs.Placing.{Placing, placing_start, placing_at, placing_step, placing_end}
-use borrow.Author.Rules.{rules}
+use Rattle.flags.proofs.Placing.{Placing}
 use Rattle.flags.proofs.first.note_word.Given as goal
 
 abbrev pub invariant-loop-left : goal.invariant-loop-left

@@ -1,9 +1,7 @@
 use mathlib.Core.Bool.{true, false}
 use Prim.Native.Nat.{◌-◌}
 use lib.ListN.{length}
-use native.Mathlib.Omega.{arith}
-use Rattle.flags.proofs.Placing.{Placed, placed_start, placed_word, placed_step, placed_end}
-use borrow.Author.Rules.{rules}
+use Rattle.flags.proofs.Placing.{Placed}
 use Rattle.flags.proofs.flag.flag.Given as goal
 
 abbrev pub invariant-loop-b : goal.invariant-loop-b

@@ -1,6 +1,5 @@
 use Rattle.flags.proofs.Flags.{taken-low}
 use native.Mathlib.Omega.{arith}
-use borrow.Author.Rules.{rules}
 use Rattle.flags.proofs.flag.flag_product.Goals as goal
 
 pub flag-requires : goal.flag-requires

@@ -1,8 +1,6 @@
-use mathlib.Core.Bool.{true, false}
 use native.Mathlib.Omega.{arith}
 use lib.Count.{trailing_le}
-use Rattle.flags.proofs.Placing.{Placing, placing_start, placing_at, placing_step, placing_end}
-use borrow.Author.Rules.{rules}
+use Rattle.flags.proofs.Placing.{placing_start, placing_at, placing_step, placing_end}
 use Rattle.flags.proofs.flag.flag_word.Goals as goal
 
 pub loop-left-init : goal.loop-left-init

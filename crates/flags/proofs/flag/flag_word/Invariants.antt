@@ -1,8 +1,5 @@
 use mathlib.Core.Bool.{true, false}
-use native.Mathlib.Omega.{arith}
-use lib.Count.{trailing_le}
-use Rattle.flags.proofs.Placing.{Placing, placing_start, placing_at, placing_step, placing_end}
-use borrow.Author.Rules.{rules}
+use Rattle.flags.proofs.Placing.{Placing}
 use Rattle.flags.proofs.flag.flag_word.Given as goal
 
 abbrev pub invariant-loop-left : goal.invariant-loop-left

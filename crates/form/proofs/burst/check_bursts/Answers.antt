@@ -1,16 +1,13 @@
 use mathlib.Core.Path.{◌≡◌, sym, ap, ap₂, ◌∙◌}
 use mathlib.Core.Option.{map}
-use Prim.Native.Nat.{ℕ, ◌-◌}
+use Prim.Native.Nat.{ℕ}
 use native.Mathlib.Omega.{arith}
 use lib.Dec.{ltb}
 use Rattle.hazard.specs.Limits.{most_moving}
-use Rattle.hazard.specs.Search.{first}
 use Rattle.hazard.specs.Cube.{distance}
-use Rattle.hazard.specs.Transition as spec
 use Rattle.hazard.specs.Transition.{start, end}
 use Rattle.hazard.specs.Refusal.{refusal}
-use Rattle.cube.proofs.Scan.{Scan, scan_start, scan_hit, scan_miss, scan_end}
-use borrow.Author.Rules.{rules}
+use Rattle.cube.proofs.Scan.{scan_start, scan_hit, scan_miss, scan_end}
 use Rattle.form.proofs.burst.check_bursts.Goals as goal
 use Rattle.form.proofs.burst.check_bursts.Goals.{After-is_wide}
 

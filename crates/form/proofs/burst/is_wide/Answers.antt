@@ -8,7 +8,6 @@ use lib.Pow.{pow_pos}
 use Rattle.hazard.specs.Limits.{most_moving}
 use Rattle.cube.proofs.Bits.{one_shl}
 use Rattle.form.proofs.Distance.{differing}
-use borrow.Author.Rules.{rules}
 use Rattle.form.proofs.burst.is_wide.Goals as goal
 
 pub nonzero_rem-moving : goal.nonzero_rem-moving

@@ -5,7 +5,6 @@ use Rattle.hazard.specs.Refusal.{inputs_check, table_checks, list_checks}
 use Rattle.hazard.proofs.Rules.{inputs-few}
 use Rattle.refusal.proofs.Checks.{passed, run_stays, run_passed, alone}
 use Rattle.form.specs.Formed.{form_checks}
-use borrow.Author.Rules.{rules}
 use Rattle.form.proofs.form.form_checks.Goals as goal
 
 pub returns-in_default : goal.returns-in_default

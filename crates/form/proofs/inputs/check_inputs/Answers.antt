@@ -4,7 +4,6 @@ use native.Mathlib.Omega.{arith}
 use lib.Dec.{eqb, ltb, eqb→eq, lt→ltb, ltb→lt}
 use Rattle.hazard.proofs.Test.{or_l, or_r, eqb_of}
 use Rattle.refusal.proofs.Checks.{neither, refuse_yes, refuse_no}
-use borrow.Author.Rules.{rules}
 use Rattle.form.proofs.inputs.check_inputs.Goals as goal
 
 pub returns-then-n-eq0 : goal.returns-then-n-eq0

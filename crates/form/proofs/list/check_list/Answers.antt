@@ -8,7 +8,6 @@ use lib.ListN.{length}
 use Rattle.hazard.specs.Transition.{count}
 use Rattle.hazard.proofs.Test.{or_l, or_r, eqb_of}
 use Rattle.refusal.proofs.Checks.{neither, refuse_yes, refuse_no}
-use borrow.Author.Rules.{rules}
 use Rattle.form.proofs.list.check_list.Goals as goal
 
 -- The two tests.

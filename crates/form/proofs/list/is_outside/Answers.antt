@@ -5,7 +5,6 @@ use lib.Dec.{leb}
 use borrow.Author.Tests.{le-leb, lt-leb}
 use Rattle.cube.proofs.Bits.{one_shl}
 use Rattle.refusal.proofs.Checks.{or-true, or-false}
-use borrow.Author.Rules.{rules}
 use Rattle.form.proofs.list.is_outside.Goals as goal
 
 pub returns-then-points-a : goal.returns-then-points-a

@@ -3,7 +3,6 @@ use mathlib.Core.List.{[], ◌∷◌}
 use Rattle.hazard.specs.Refusal.{list_check, ends_check, bursts_check}
 use Rattle.hazard.proofs.Rules.{list_few}
 use Rattle.refusal.proofs.Checks.{passed, run_stays, run_passed, alone}
-use borrow.Author.Rules.{rules}
 use Rattle.form.proofs.list.list_checks.Goals as goal
 
 pub returns-in_default : goal.returns-in_default

@@ -1,15 +1,9 @@
-use mathlib.Core.Path.{ap, ◌∙◌}
-use mathlib.Core.Option.{map}
 use Prim.Native.Nat.{◌-◌}
-use native.Mathlib.Omega.{arith}
 use lib.Dec.{ltb}
 use lib.ListN.{length}
-use borrow.Author.Tests.{lt-ltb, le-ltb}
 use Rattle.hazard.specs.Search.{first}
 use Rattle.hazard.specs.Transition.{value}
-use Rattle.hazard.specs.Refusal.{refusal}
-use Rattle.cube.proofs.Scan.{Scan, scan_start, scan_hit, scan_miss, scan_end, get_d_any}
-use borrow.Author.Rules.{rules}
+use Rattle.cube.proofs.Scan.{Scan}
 use Rattle.form.proofs.table.check_bytes.Given as goal
 
 abbrev pub invariant-loop-x : goal.invariant-loop-x

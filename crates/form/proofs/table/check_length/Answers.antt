@@ -7,7 +7,6 @@ use lib.ListN.{length}
 use Rattle.hazard.proofs.Test.{tests}
 use Rattle.cube.proofs.Bits.{one_shl}
 use Rattle.refusal.proofs.Checks.{refuse_yes, refuse_no}
-use borrow.Author.Rules.{rules}
 use Rattle.form.proofs.table.check_length.Goals as goal
 
 pub returns-then-table-points : goal.returns-then-table-points

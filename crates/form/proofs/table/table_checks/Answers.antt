@@ -5,7 +5,6 @@ use lib.Pow.{pow_mono}
 use Rattle.hazard.specs.Refusal.{length_check, bytes_check}
 use Rattle.hazard.proofs.Rules.{length_whole}
 use Rattle.refusal.proofs.Checks.{passed, run_stays, run_passed, alone}
-use borrow.Author.Rules.{rules}
 use Rattle.form.proofs.table.table_checks.Goals as goal
 
 pub returns-in_default : goal.returns-in_default

@@ -4,7 +4,6 @@ use Prim.Native.Nat.{ℕ, ◌+◌, ◌*◌}
 use Rattle.hazard.specs.Transition.{kind_of}
 use Rattle.kinds.specs.Codes.{one_at}
 use Rattle.kinds.proofs.Coded.{kind-high}
-use borrow.Author.Rules.{rules}
 use Rattle.kinds.proofs.kind.kind_of.Goals as goal
 use Rattle.kinds.proofs.kind.kind_of.Goals.{After-one_at-2}
 

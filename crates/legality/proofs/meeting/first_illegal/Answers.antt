@@ -5,7 +5,6 @@ use Rattle.cube.specs.Mask.{cube_of}
 use Rattle.cube.specs.Entry.{privileged_in}
 use Rattle.legality.proofs.Illegal.{few_rows}
 use Rattle.legality.proofs.Selecting.{rows_find-none, rows_find-low, rows_find}
-use borrow.Author.Rules.{rules}
 use Rattle.legality.proofs.meeting.first_illegal.Goals as goal
 
 pub returns-then-rows-eq0 : goal.returns-then-rows-eq0

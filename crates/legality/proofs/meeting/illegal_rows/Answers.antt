@@ -1,11 +1,9 @@
 use mathlib.Core.Path.{◌≡◌, ap, ◌∙◌}
-use Prim.Native.Nat.{◌-◌, ◌≤◌}
 use native.Mathlib.Omega.{arith}
 use lib.ListN.{length}
-use Rattle.context.specs.Places.{meets_at, starts_at, privileged_words}
+use Rattle.context.specs.Places.{meets_at, starts_at}
 use Rattle.context.proofs.Parts.{part_length}
-use Rattle.legality.proofs.Illegal.{Narrowed, narrowed_start, column_step, illegal_are}
-use borrow.Author.Rules.{rules}
+use Rattle.legality.proofs.Illegal.{narrowed_start, column_step, illegal_are}
 use Rattle.legality.proofs.meeting.illegal_rows.Goals as goal
 use Rattle.legality.proofs.meeting.illegal_rows.Goals.{After-starts-starting}
 

@@ -8,7 +8,6 @@ use Rattle.context.specs.Places.{privileged_at, meets_at, starts_at}
 use Rattle.context.proofs.Parts.{part_length}
 use Rattle.legality.proofs.Placing.{placed, placed_length}
 use Rattle.legality.proofs.Storing.{stored_length, filled_is}
-use borrow.Author.Rules.{rules}
 use Rattle.legality.proofs.store.store_privileged.Goals as goal
 use Rattle.legality.proofs.store.store_privileged.Goals.{After-blocks_into-2}
 

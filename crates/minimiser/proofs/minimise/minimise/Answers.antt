@@ -8,7 +8,6 @@ use Rattle.checks.specs.Problem.{Problem}
 use Rattle.checks.proofs.Checks.{answer_accepted, answer_refused, accepted_in}
 use Rattle.selection.specs.Answer.{minimised_of}
 use Rattle.minimiser.proofs.Answering.{input-declined}
-use borrow.Author.Rules.{rules}
 use Rattle.minimiser.proofs.minimise.minimise.Goals as goal
 use Rattle.minimiser.proofs.minimise.minimise.Goals.{In-Accepted}
 

@@ -14,7 +14,6 @@ use Rattle.checks.proofs.Checks.{ready-few}
 use Rattle.selection.specs.Answer.{minimised_of}
 use Rattle.minimiser.specs.Answer.{Answered}
 use Rattle.minimiser.proofs.Answering.{part_few}
-use borrow.Author.Rules.{rules}
 use Rattle.minimiser.proofs.minimise.network_large.Goals as goal
 use Rattle.minimiser.proofs.minimise.network_large.Goals.{After-store_required-count}
 

@@ -1,7 +1,6 @@
 use native.Mathlib.Omega.{arith}
 use Rattle.context.specs.Context.{off_in, privileged_of}
 use Rattle.minimiser.proofs.Answering.{stored_writable}
-use borrow.Author.Rules.{rules}
 use Rattle.minimiser.proofs.network.network_few.Goals as goal
 
 pub select-selected-requires : goal.select-selected-requires

@@ -2,7 +2,6 @@ use mathlib.Core.Path.{sym, subst}
 use Prim.Native.Nat.{ℕ, ◌*◌, ◌≤◌}
 use native.Mathlib.Omega.{arith}
 use lib.ListN.{length}
-use borrow.Author.Rules.{rules}
 use Rattle.minimiser.proofs.write.write_sorted.Goals as goal
 
 pub write_network-requires : goal.write_network-requires

@@ -8,7 +8,6 @@ use Rattle.cube.specs.PointSet.{in_set}
 use Rattle.points.specs.PointWord.{WordOf}
 use Rattle.moves.specs.Further.{moves_from}
 use Rattle.moves.proofs.FurtherWord.{across_none, across_here}
-use borrow.Author.Rules.{rules}
 use Rattle.moves.proofs.further.across.Goals as goal
 
 pub returns-then-bit_of-from : goal.returns-then-bit_of-from

@@ -1,7 +1,7 @@
 use native.Mathlib.Omega.{arith}
 use lib.Count.{trailing_le}
 use Rattle.cube.specs.PointSet.{in_set}
-use Rattle.moves.proofs.Movement.{Moving, moving_start, moving_input, moving_less, moving_more, moving_end}
+use Rattle.moves.proofs.Movement.{moving_start, moving_input, moving_less, moving_more, moving_end}
 use Rattle.moves.proofs.further.further_word.Goals as goal
 
 pub loop-left-init : goal.loop-left-init

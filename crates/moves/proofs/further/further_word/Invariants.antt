@@ -1,7 +1,5 @@
-use native.Mathlib.Omega.{arith}
-use lib.Count.{trailing_le}
 use Rattle.cube.specs.PointSet.{in_set}
-use Rattle.moves.proofs.Movement.{Moving, moving_start, moving_input, moving_less, moving_more, moving_end}
+use Rattle.moves.proofs.Movement.{Moving}
 use Rattle.moves.proofs.further.further_word.Given as goal
 
 abbrev pub invariant-loop-left : goal.invariant-loop-left

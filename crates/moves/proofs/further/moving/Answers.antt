@@ -2,7 +2,6 @@ use mathlib.Core.Path.{◌≡◌}
 use Prim.Native.Nat.{◌+◌, ◌-◌}
 use native.Mathlib.Omega.{arith}
 use Rattle.moves.proofs.FurtherWord.{within_word}
-use borrow.Author.Rules.{rules}
 use Rattle.moves.proofs.further.moving.Goals as goal
 
 pub returns-then-i-lt6 : goal.returns-then-i-lt6

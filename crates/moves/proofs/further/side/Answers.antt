@@ -3,7 +3,6 @@ use Prim.Native.Nat.{ℕ}
 use lib.Dec.{T}
 use lib.ListN.{get_or}
 use Rattle.moves.proofs.FurtherWord.{all, is_side, side_of}
-use borrow.Author.Rules.{rules}
 use Rattle.moves.proofs.further.side.Goals as goal
 
 -- The code's table, and its rule at each entry.

@@ -2,7 +2,6 @@ use mathlib.Core.Path.{◌≡◌}
 use native.Mathlib.Omega.{arith}
 use Rattle.moves.specs.Further.{Side}
 use Rattle.moves.proofs.FurtherWord.{by_is, by_few, within-zero, within-one}
-use borrow.Author.Rules.{rules}
 use Rattle.moves.proofs.further.within.Goals as goal
 
 pub overflow_shr-result : goal.overflow_shr-result

@@ -2,7 +2,6 @@ use mathlib.Core.Bool.{not}
 use Rattle.cube.specs.PointSet.{in_set}
 use Rattle.moves.specs.Further.{further_in}
 use Rattle.points.proofs.Masked.{word_none, mask_but}
-use borrow.Author.Rules.{rules}
 use Rattle.moves.proofs.turn.last_points.Goals as goal
 
 pub returns-then-common-eq0 : goal.returns-then-common-eq0

@@ -1,7 +1,6 @@
 use Rattle.cube.specs.PointSet.{in_set}
 use Rattle.moves.specs.Further.{further_in}
 use Rattle.points.proofs.Masked.{word_none, mask_and}
-use borrow.Author.Rules.{rules}
 use Rattle.moves.proofs.turn.turning_points.Goals as goal
 
 pub returns-then-common-eq0 : goal.returns-then-common-eq0

@@ -1,6 +1,5 @@
 use mathlib.Core.Path.{refl}
 use native.Mathlib.Omega.{arith}
-use borrow.Author.Rules.{rules}
 use Rattle.quiet_text.proofs.Answering.{replied_short}
 use Rattle.quiet_text.proofs.answer.answer.Goals as goal
 

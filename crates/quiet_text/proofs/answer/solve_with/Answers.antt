@@ -1,6 +1,5 @@
 use mathlib.Core.Path.{subst}
 use native.Mathlib.Omega.{arith}
-use borrow.Author.Rules.{rules}
 use Rattle.hazard.specs.Minimal as minimal
 use Rattle.refusal.specs.Answer.{refusal_of}
 use Rattle.selection.specs.Answer.{minimised_of}

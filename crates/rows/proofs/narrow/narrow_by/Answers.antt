@@ -1,10 +1,6 @@
 use mathlib.Core.Path.{refl}
-use Prim.Native.Nat.{◌+◌, ◌-◌, ◌≤◌}
-use lib.Bits.{bit_and}
-use lib.ListN.{length, get_or}
 use native.Mathlib.Omega.{arith}
-use Rattle.cube.proofs.Sweep.{Sweep, sweep_step}
-use borrow.Author.Rules.{rules}
+use Rattle.cube.proofs.Sweep.{sweep_step}
 use Rattle.rows.proofs.narrow.narrow_by.Goals as goal
 
 pub loop-b-smaller : goal.loop-b-smaller

@@ -1,10 +1,7 @@
-use mathlib.Core.Path.{refl}
 use Prim.Native.Nat.{◌+◌, ◌-◌, ◌≤◌}
 use lib.Bits.{bit_and}
 use lib.ListN.{length, get_or}
-use native.Mathlib.Omega.{arith}
-use Rattle.cube.proofs.Sweep.{Sweep, sweep_step}
-use borrow.Author.Rules.{rules}
+use Rattle.cube.proofs.Sweep.{Sweep}
 use Rattle.rows.proofs.narrow.narrow_by.Given as goal
 
 abbrev pub invariant-loop-b : goal.invariant-loop-b

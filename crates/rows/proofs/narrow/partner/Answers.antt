@@ -3,7 +3,6 @@ use Rattle.hazard.proofs.Test.{cond_yes, cond_no}
 use lib.Dec.{ltb, lt→ltb, ltb→lt}
 use native.Mathlib.Omega.{arith}
 use mathlib.Core.Path.{sym}
-use borrow.Author.Rules.{rules}
 use Rattle.rows.proofs.narrow.partner.Goals as goal
 
 pub returns-then-i-n : goal.returns-then-i-n

@@ -1,10 +1,6 @@
 use mathlib.Core.Path.{refl}
-use Prim.Native.Nat.{◌-◌, ◌≤◌}
-use lib.Bits.{bit_and, bit_xor}
-use lib.ListN.{length, get_or}
 use native.Mathlib.Omega.{arith}
-use Rattle.cube.proofs.Sweep.{Sweep, sweep_start, sweep_step}
-use borrow.Author.Rules.{rules}
+use Rattle.cube.proofs.Sweep.{sweep_start, sweep_step}
 use Rattle.rows.proofs.split.remove.Goals as goal
 
 pub loop-b-init : goal.loop-b-init

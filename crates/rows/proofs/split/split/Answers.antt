@@ -4,7 +4,6 @@ use native.Mathlib.Omega.{arith}
 use lib.ListN.{length}
 use lib.Seq.{take_all}
 use Rattle.rows.proofs.Splitting.{split_is}
-use borrow.Author.Rules.{rules}
 use Rattle.rows.proofs.split.split.Goals as goal
 
 -- src/split.rt:42:5

@@ -1,8 +1,5 @@
-use Prim.Native.Nat.{◌-◌}
-use lib.ListN.{length}
 use native.Mathlib.Omega.{arith}
-use Rattle.rows.proofs.Filling.{Filling, filling_start, filling_step}
-use borrow.Author.Rules.{rules}
+use Rattle.rows.proofs.Filling.{filling_start, filling_step}
 use Rattle.rows.proofs.whole.whole_into.Goals as goal
 
 pub loop-b-init : goal.loop-b-init

@@ -1,8 +1,6 @@
 use Prim.Native.Nat.{◌-◌}
 use lib.ListN.{length}
-use native.Mathlib.Omega.{arith}
-use Rattle.rows.proofs.Filling.{Filling, filling_start, filling_step}
-use borrow.Author.Rules.{rules}
+use Rattle.rows.proofs.Filling.{Filling}
 use Rattle.rows.proofs.whole.whole_into.Given as goal
 
 abbrev pub invariant-loop-b : goal.invariant-loop-b

@@ -1,18 +1,15 @@
 use mathlib.Core.Path.{◌≡◌, sym, ap, ap₂, ◌∙◌}
 use mathlib.Core.Option.{map}
-use Prim.Native.Nat.{◌+◌, ◌-◌, ◌*◌}
+use Prim.Native.Nat.{◌+◌, ◌*◌}
 use native.Mathlib.Omega.{arith}
-use Rattle.hazard.specs.Search.{first_place}
-use Rattle.hazard.specs.Transition as spec
 use Rattle.hazard.specs.Transition.{start, end, undefined_at}
 use Rattle.hazard.specs.Implicant.{lowest_zero}
 use Rattle.hazard.specs.Refusal.{refusal}
 use Rattle.cube.specs.PointSet.{in_set}
 use Rattle.points.specs.Found.{found_of}
 use Rattle.context.specs.Context.{table_in}
-use Rattle.cube.proofs.Scan.{Places, places_start, places_hit, places_miss, places_end}
+use Rattle.cube.proofs.Scan.{places_start, places_hit, places_miss, places_end}
 use Rattle.rules.proofs.Faults.{undefined_is}
-use borrow.Author.Rules.{rules}
 use Rattle.rules.proofs.defined.check_defined.Goals as goal
 use Rattle.rules.proofs.defined.check_defined.Goals.{After-lowest_in}
 

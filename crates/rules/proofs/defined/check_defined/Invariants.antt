@@ -1,18 +1,9 @@
-use mathlib.Core.Path.{◌≡◌, sym, ap, ap₂, ◌∙◌}
-use mathlib.Core.Option.{map}
-use Prim.Native.Nat.{◌+◌, ◌-◌, ◌*◌}
-use native.Mathlib.Omega.{arith}
+use Prim.Native.Nat.{◌-◌}
 use Rattle.hazard.specs.Search.{first_place}
 use Rattle.hazard.specs.Transition as spec
 use Rattle.hazard.specs.Transition.{start, end, undefined_at}
-use Rattle.hazard.specs.Implicant.{lowest_zero}
-use Rattle.hazard.specs.Refusal.{refusal}
-use Rattle.cube.specs.PointSet.{in_set}
-use Rattle.points.specs.Found.{found_of}
 use Rattle.context.specs.Context.{table_in}
-use Rattle.cube.proofs.Scan.{Places, places_start, places_hit, places_miss, places_end}
-use Rattle.rules.proofs.Faults.{undefined_is}
-use borrow.Author.Rules.{rules}
+use Rattle.cube.proofs.Scan.{Places}
 use Rattle.rules.proofs.defined.check_defined.Given as goal
 
 abbrev pub invariant-loop-t : goal.invariant-loop-t

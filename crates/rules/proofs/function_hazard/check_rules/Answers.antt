@@ -1,17 +1,14 @@
 use mathlib.Core.Path.{◌≡◌, sym, ap, ◌∙◌}
 use mathlib.Core.Option.{map}
-use Prim.Native.Nat.{◌+◌, ◌-◌, ◌*◌}
+use Prim.Native.Nat.{◌+◌, ◌*◌}
 use native.Mathlib.Omega.{arith}
-use Rattle.hazard.specs.Search.{first_place}
-use Rattle.hazard.specs.Transition as spec
 use Rattle.hazard.specs.Transition.{start, end, function_hazard_at}
 use Rattle.hazard.specs.Refusal.{refusal}
-use Rattle.cube.proofs.Scan.{Places, places_start, places_hit, places_miss, places_end}
+use Rattle.cube.proofs.Scan.{places_start, places_hit, places_miss, places_end}
 use Rattle.points.specs.Found.{found_of}
 use Rattle.context.specs.Context.{table_in}
 use Rattle.kinds.proofs.Coded.{listed-few, ready_ends}
 use Rattle.rules.specs.Fault.{hazard_by}
-use borrow.Author.Rules.{rules}
 use Rattle.rules.proofs.function_hazard.check_rules.Goals as goal
 use Rattle.rules.proofs.function_hazard.check_rules.Goals.{After-lowest_hazard}
 

@@ -9,7 +9,6 @@ use Rattle.context.specs.Context.{table_in}
 use Rattle.context.proofs.Values.{plane_zeros, plane_ones}
 use Rattle.kinds.specs.Codes.{kind_is}
 use Rattle.rules.proofs.Faults.{turning, static_is, rise_is, fall_is, kind-is}
-use borrow.Author.Rules.{rules}
 use Rattle.rules.proofs.function_hazard.lowest_hazard.Goals as goal
 
 pub lowest_in-requires : goal.lowest_in-requires

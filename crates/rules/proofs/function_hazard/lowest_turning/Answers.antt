@@ -1,17 +1,16 @@
 use mathlib.Core.Path.{◌≡◌, refl, ap, ◌∙◌}
 use mathlib.Core.Bool.{◌&&◌}
 use mathlib.Core.Option.{some}
-use Prim.Native.Nat.{◌-◌, ◌^◌}
+use Prim.Native.Nat.{◌^◌}
 use native.Mathlib.Omega.{arith}
 use Rattle.hazard.specs.Search.{first}
 use Rattle.hazard.specs.Cube as digits
 use Rattle.hazard.specs.Cube.{has, span}
 use Rattle.cube.specs.PointSet.{in_set}
 use Rattle.points.specs.Walk.{lowest_on}
-use Rattle.points.proofs.Looking.{Looked, looked_start, looked_more, looked_hit, looked_end}
+use Rattle.points.proofs.Looking.{looked_start, looked_more, looked_hit, looked_end}
 use Rattle.points.proofs.Agree.{lowest_agrees}
 use Rattle.moves.specs.Turn.{turns}
-use borrow.Author.Rules.{rules}
 use Rattle.rules.proofs.function_hazard.lowest_turning.Goals as goal
 use Rattle.rules.proofs.function_hazard.lowest_turning.Goals.{After-first_step-s}
 

@@ -4,7 +4,6 @@ use Rattle.hazard.specs.Refusal.{defined_check, rules_check}
 use Rattle.refusal.proofs.Checks.{passed, run_stays, run_passed, alone}
 use Rattle.context.specs.Context.{table_in}
 use Rattle.rules.proofs.Ready.{defined_ready}
-use borrow.Author.Rules.{rules}
 use Rattle.rules.proofs.run.points_checks.Goals as goal
 
 pub returns-in_default : goal.returns-in_default

@@ -1,5 +1,4 @@
 use Rattle.selection.proofs.Products.{over-same, over-absorb}
-use borrow.Author.Rules.{rules}
 use Rattle.selection.proofs.product.grown_over.Goals as goal
 
 pub returns-then-required-k : goal.returns-then-required-k

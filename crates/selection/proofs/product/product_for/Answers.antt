@@ -7,7 +7,6 @@ use Rattle.cube.proofs.Word.{stands_in}
 use Rattle.expand.specs.Answer.{Grows}
 use Rattle.expand.proofs.Outcome.{checked, blocked_refusal}
 use Rattle.selection.proofs.Products.{masks_digits, stage_legal, stage_prime}
-use borrow.Author.Rules.{rules}
 use Rattle.selection.proofs.product.product_for.Goals as goal
 use Rattle.selection.proofs.product.product_for.Goals.{After-grow-grown}
 

@@ -1,10 +1,6 @@
-use Prim.Native.Nat.{◌<◌}
 use native.Mathlib.Omega.{arith}
 use lib.Count.{trailing_le}
-use Rattle.cube.specs.Mask.{cube_of}
-use Rattle.rows.specs.Sets.{most_words}
-use Rattle.selection.proofs.Products.{Stage, stage_start, stage_step, stage_end}
-use borrow.Author.Rules.{rules}
+use Rattle.selection.proofs.Products.{stage_start, stage_step, stage_end}
 use Rattle.selection.proofs.product.widened.Goals as goal
 
 pub loop-tries-init : goal.loop-tries-init

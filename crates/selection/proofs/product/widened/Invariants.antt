@@ -1,10 +1,7 @@
 use Prim.Native.Nat.{◌<◌}
-use native.Mathlib.Omega.{arith}
-use lib.Count.{trailing_le}
 use Rattle.cube.specs.Mask.{cube_of}
 use Rattle.rows.specs.Sets.{most_words}
-use Rattle.selection.proofs.Products.{Stage, stage_start, stage_step, stage_end}
-use borrow.Author.Rules.{rules}
+use Rattle.selection.proofs.Products.{Stage}
 use Rattle.selection.proofs.product.widened.Given as goal
 
 abbrev pub invariant-loop-tries : goal.invariant-loop-tries

@@ -1,19 +1,17 @@
 use mathlib.Core.Path.{ap}
 use mathlib.Core.Bool.{cond}
 use mathlib.Core.List.{[], ◌∷◌}
-use Prim.Native.Nat.{◌-◌, ◌≤◌}
 use native.Mathlib.Nat.{sub-zero}
 use native.Mathlib.Omega.{arith}
 use lib.ListN.{length}
 use Rattle.hazard.specs.Transition as spec
-use Rattle.hazard.specs.Sets.{dynamic, kind_at, privileged, privileged_from}
+use Rattle.hazard.specs.Sets.{dynamic, kind_at, privileged}
 use Rattle.cube.specs.Entry.{privileged_in}
 use Rattle.context.specs.Context.{table_in}
 use Rattle.kinds.proofs.Coded.{listed-few, ready_ends}
-use Rattle.entries.proofs.Filling.{Filling, filling_start, filling_more, filling_end, stored_as}
+use Rattle.entries.proofs.Filling.{filling_start, filling_more, filling_end, stored_as}
 use Rattle.sets.specs.Held.{privileged_by}
 use Rattle.sets.proofs.Gather.{held, privileged_step, privileged_done, entry_few}
-use borrow.Author.Rules.{rules}
 use Rattle.sets.proofs.privileged.privileged_into.Goals as goal
 
 pub loop-t-init : goal.loop-t-init

@@ -8,7 +8,6 @@ use Rattle.sets.specs.Held.{privileged_by}
 use Rattle.cube.proofs.Word.{packed_clean}
 use Rattle.sets.proofs.Word.{word-privileged}
 use Rattle.sets.proofs.Gather.{start-lt, stored_yes, stored_no}
-use borrow.Author.Rules.{rules}
 use Rattle.sets.proofs.privileged.store_privileged.Goals as goal
 
 pub returns-then-is_dynamic : goal.returns-then-is_dynamic

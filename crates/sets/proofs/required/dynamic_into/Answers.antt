@@ -1,7 +1,7 @@
 use mathlib.Core.Path.{ap, ◌∙◌, subst}
 use mathlib.Core.Bool.{◌&&◌}
 use mathlib.Core.List.{List}
-use Prim.Native.Nat.{ℕ, ◌-◌, ◌^◌}
+use Prim.Native.Nat.{ℕ, ◌^◌}
 use native.Mathlib.Omega.{arith}
 use lib.ListN.{length}
 use lib.Pow.{pow_mono}
@@ -11,15 +11,13 @@ use Rattle.points.proofs.Agree.{Agrees}
 use Rattle.context.proofs.Values.{plane_ones}
 use Rattle.cube.specs.Entry.{required_in}
 use Rattle.cube.specs.PointSet.{in_set}
-use Rattle.hazard.specs.Search.{those}
 use Rattle.hazard.specs.Sets.{maximal_label}
 use Rattle.moves.specs.Turn.{lasts}
 use Rattle.context.specs.Places.{ones_in}
 use Rattle.context.specs.Context.{table_in}
 use Rattle.entries.specs.Store.{required_to}
 use Rattle.sets.proofs.Makers.{labels_agree}
-use Rattle.sets.proofs.Gather.{Walked, walked_start, walked_room, walked_below, walked_more, walked_end}
-use borrow.Author.Rules.{rules}
+use Rattle.sets.proofs.Gather.{walked_start, walked_room, walked_below, walked_more, walked_end}
 use Rattle.sets.proofs.required.dynamic_into.Goals as goal
 use Rattle.sets.proofs.required.dynamic_into.Goals.{After-first_step-step, After-last_points-labels}
 

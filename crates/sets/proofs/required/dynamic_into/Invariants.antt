@@ -1,14 +1,4 @@
-use mathlib.Core.Path.{ap, ◌∙◌, subst}
-use mathlib.Core.Bool.{◌&&◌}
-use mathlib.Core.List.{List}
-use Prim.Native.Nat.{ℕ, ◌-◌, ◌^◌}
-use native.Mathlib.Omega.{arith}
-use lib.ListN.{length}
-use lib.Pow.{pow_mono}
-use Rattle.points.specs.PointWord.{WordOf, masked}
-use Rattle.points.specs.Walk.{visits}
-use Rattle.points.proofs.Agree.{Agrees}
-use Rattle.context.proofs.Values.{plane_ones}
+use Prim.Native.Nat.{◌-◌, ◌^◌}
 use Rattle.cube.specs.Entry.{required_in}
 use Rattle.cube.specs.PointSet.{in_set}
 use Rattle.hazard.specs.Search.{those}
@@ -17,9 +7,7 @@ use Rattle.moves.specs.Turn.{lasts}
 use Rattle.context.specs.Places.{ones_in}
 use Rattle.context.specs.Context.{table_in}
 use Rattle.entries.specs.Store.{required_to}
-use Rattle.sets.proofs.Makers.{labels_agree}
-use Rattle.sets.proofs.Gather.{Walked, walked_start, walked_room, walked_below, walked_more, walked_end}
-use borrow.Author.Rules.{rules}
+use Rattle.sets.proofs.Gather.{Walked}
 use Rattle.sets.proofs.required.dynamic_into.Given as goal
 
 abbrev pub invariant-loop-step : goal.invariant-loop-step

@@ -4,7 +4,6 @@ use Rattle.context.specs.Context.{table_in}
 use Rattle.kinds.specs.Codes.{kind_is}
 use Rattle.entries.proofs.Filling.{stored_none, stored_as}
 use Rattle.sets.proofs.Gather.{by_size, by_is}
-use borrow.Author.Rules.{rules}
 use Rattle.sets.proofs.required.transition_into.Goals as goal
 
 pub dynamic_into-requires : goal.dynamic_into-requires

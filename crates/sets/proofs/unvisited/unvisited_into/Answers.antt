@@ -1,11 +1,9 @@
 use mathlib.Core.Path.{◌≡◌, refl, ap, ◌∙◌}
-use Prim.Native.Nat.{◌-◌, ◌≤◌}
 use native.Mathlib.Omega.{arith}
 use lib.ListN.{length}
-use Rattle.cube.proofs.Sweep.{Sweep, sweep_start, sweep_step}
+use Rattle.cube.proofs.Sweep.{sweep_start, sweep_step}
 use Rattle.context.proofs.Values.{plane_ones}
-use Rattle.sets.proofs.Leaving.{left_word, left-unvisited}
-use borrow.Author.Rules.{rules}
+use Rattle.sets.proofs.Leaving.{left-unvisited}
 use Rattle.sets.proofs.unvisited.unvisited_into.Goals as goal
 use Rattle.sets.proofs.unvisited.unvisited_into.Goals.{After-ones-ones}
 

@@ -1,11 +1,6 @@
-use mathlib.Core.Path.{◌≡◌, refl, ap, ◌∙◌}
 use Prim.Native.Nat.{◌-◌, ◌≤◌}
-use native.Mathlib.Omega.{arith}
-use lib.ListN.{length}
-use Rattle.cube.proofs.Sweep.{Sweep, sweep_start, sweep_step}
-use Rattle.context.proofs.Values.{plane_ones}
-use Rattle.sets.proofs.Leaving.{left_word, left-unvisited}
-use borrow.Author.Rules.{rules}
+use Rattle.cube.proofs.Sweep.{Sweep}
+use Rattle.sets.proofs.Leaving.{left_word}
 use Rattle.sets.proofs.unvisited.unvisited_into.Given as goal
 
 abbrev pub invariant-loop-w : goal.invariant-loop-w

@@ -1,10 +1,9 @@
 use mathlib.Core.Path.{◌≡◌, ◌∙◌, ap₂}
-use Prim.Native.Nat.{◌+◌, ◌-◌, ◌*◌, ◌≤◌}
+use Prim.Native.Nat.{◌+◌, ◌*◌}
 use native.Mathlib.Omega.{arith}
 use Rattle.hazard.specs.Cube.{span}
 use Rattle.hazard.specs.Transition as spec
-use Rattle.sets.proofs.Leaving.{Visiting, visiting_start, visiting_more}
-use borrow.Author.Rules.{rules}
+use Rattle.sets.proofs.Leaving.{visiting_start, visiting_more}
 use Rattle.sets.proofs.unvisited.visited_into.Goals as goal
 
 pub loop-t-init : goal.loop-t-init

@@ -1,10 +1,6 @@
-use mathlib.Core.Path.{◌≡◌, ◌∙◌, ap₂}
-use Prim.Native.Nat.{◌+◌, ◌-◌, ◌*◌, ◌≤◌}
-use native.Mathlib.Omega.{arith}
-use Rattle.hazard.specs.Cube.{span}
+use Prim.Native.Nat.{◌-◌, ◌≤◌}
 use Rattle.hazard.specs.Transition as spec
-use Rattle.sets.proofs.Leaving.{Visiting, visiting_start, visiting_more}
-use borrow.Author.Rules.{rules}
+use Rattle.sets.proofs.Leaving.{Visiting}
 use Rattle.sets.proofs.unvisited.visited_into.Given as goal
 
 abbrev pub invariant-loop-t : goal.invariant-loop-t

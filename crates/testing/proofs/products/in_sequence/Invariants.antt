@@ -1,7 +1,5 @@
 use Prim.Native.Nat.{◌-◌, ◌≤◌}
 use lib.ListN.{length}
-use native.Mathlib.Omega.{arith}
-use borrow.Author.Rules.{rules}
 use Rattle.testing.proofs.products.in_sequence.Given as goal
 
 abbrev pub invariant-loop-at : goal.invariant-loop-at

@@ -4,7 +4,6 @@ use Rattle.cube.specs.Entry.{required_in}
 use Rattle.context.specs.Context.{off_in, privileged_of}
 use Rattle.verifier.specs.Judge.{fault_of}
 use Rattle.verifier.proofs.Judging.{read_few, read_clean, read_is}
-use borrow.Author.Rules.{rules}
 use Rattle.verifier.proofs.judge.judge_with.Goals as goal
 
 pub first_fault-requires : goal.first_fault-requires

@@ -11,7 +11,6 @@ use Rattle.context.specs.Context.{off_in, privileged_of}
 use Rattle.sets.proofs.Gather.{held_all}
 use Rattle.checks.proofs.Checks.{ready-few}
 use Rattle.verifier.specs.Judge.{fault_of}
-use borrow.Author.Rules.{rules}
 use Rattle.verifier.proofs.verify.judge_large.Goals as goal
 use Rattle.verifier.proofs.verify.judge_large.Goals.{After-store_required-count}
 

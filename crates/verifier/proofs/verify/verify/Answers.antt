@@ -8,7 +8,6 @@ use Rattle.conditions.specs.Answer.{verdict_of}
 use Rattle.checks.specs.Problem.{Problem}
 use Rattle.checks.proofs.Checks.{answer_accepted, answer_refused, accepted_in}
 use Rattle.verifier.proofs.Verifying.{input-refused}
-use borrow.Author.Rules.{rules}
 use Rattle.verifier.proofs.verify.verify.Goals as goal
 use Rattle.verifier.proofs.verify.verify.Goals.{In-Accepted}
 

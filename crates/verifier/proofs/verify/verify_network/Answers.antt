@@ -10,7 +10,6 @@ use Rattle.network_bytes.specs.Network.{Sound}
 use Rattle.verifier.specs.Judge.{fault_of}
 use Rattle.verifier.proofs.Judging.{problem-fault, problem-few}
 use Rattle.verifier.proofs.Verifying.{network-refused, network_sound, network_judged}
-use borrow.Author.Rules.{rules}
 use Rattle.verifier.proofs.verify.verify_network.Goals as goal
 use Rattle.verifier.proofs.verify.verify_network.Goals.{In_default}
 

@@ -1,4 +1,3 @@
-use borrow.Author.Rules.{rules}
 use native.Mathlib.Omega.{arith}
 use Rattle.writing.proofs.Printing.{cell_two}
 use Rattle.writing.proofs.put.cell_of.Goals as goal

@@ -1,9 +1,6 @@
 use mathlib.Core.Path.{refl}
-use Prim.Native.Nat.{◌-◌}
 use native.Mathlib.Omega.{arith}
-use lib.ListN.{length}
-use borrow.Author.Rules.{rules}
-use Rattle.writing.proofs.Writing.{Writing, writing_start, writing_step, writing_end}
+use Rattle.writing.proofs.Writing.{writing_start, writing_step, writing_end}
 use Rattle.writing.proofs.put.put_bytes.Goals as goal
 
 pub loop-i-init : goal.loop-i-init

@@ -1,9 +1,6 @@
-use mathlib.Core.Path.{refl}
 use Prim.Native.Nat.{◌-◌}
-use native.Mathlib.Omega.{arith}
 use lib.ListN.{length}
-use borrow.Author.Rules.{rules}
-use Rattle.writing.proofs.Writing.{Writing, writing_start, writing_step, writing_end}
+use Rattle.writing.proofs.Writing.{Writing}
 use Rattle.writing.proofs.put.put_bytes.Given as goal
 
 abbrev pub invariant-loop-i : goal.invariant-loop-i

@@ -1,6 +1,5 @@
 use native.Mathlib.Omega.{arith}
 use lib.ListN.{length-set}
-use borrow.Author.Rules.{rules}
 use Rattle.writing.proofs.Writing.{wrote_byte, wrote_then, field_next}
 use Rattle.writing.proofs.put.put_field.Goals as goal
 

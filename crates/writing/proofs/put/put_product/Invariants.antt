@@ -1,11 +1,8 @@
-use mathlib.Core.Path.{sym, ◌∙◌}
 use mathlib.Core.List.{map}
-use Prim.Native.Nat.{◌-◌, ◌≤◌, ◌<◌}
-use native.Mathlib.Omega.{arith}
-use lib.ListN.{length, length-map, get_or-map}
-use borrow.Author.Rules.{rules}
+use Prim.Native.Nat.{◌-◌, ◌≤◌}
+use lib.ListN.{length}
 use Rattle.problem_text.specs.Form.{cell}
-use Rattle.writing.proofs.Writing.{Writing, writing_start, writing_step, writing_end, wrote_byte, wrote_then}
+use Rattle.writing.proofs.Writing.{Writing}
 use Rattle.writing.proofs.put.put_product.Given as goal
 
 abbrev pub invariant-loop-i : goal.invariant-loop-i

@@ -1,8 +1,7 @@
 use mathlib.Core.Path.{◌≡◌}
 use Prim.Native.Nat.{◌+◌, ◌-◌}
 use native.Mathlib.Omega.{arith}
-use borrow.Author.Rules.{rules}
-use Rattle.writing.proofs.Printing.{Printing, printing_start, printing_from, printing_room, printing_step, printing_end}
+use Rattle.writing.proofs.Printing.{printing_start, printing_from, printing_room, printing_step, printing_end}
 use Rattle.writing.proofs.put.put_products.Goals as goal
 
 pub loop-j-init : goal.loop-j-init

@@ -1,8 +1,5 @@
-use mathlib.Core.Path.{◌≡◌}
-use Prim.Native.Nat.{◌+◌, ◌-◌}
-use native.Mathlib.Omega.{arith}
-use borrow.Author.Rules.{rules}
-use Rattle.writing.proofs.Printing.{Printing, printing_start, printing_from, printing_room, printing_step, printing_end}
+use Prim.Native.Nat.{◌-◌}
+use Rattle.writing.proofs.Printing.{Printing}
 use Rattle.writing.proofs.put.put_products.Given as goal
 
 abbrev pub invariant-loop-j : goal.invariant-loop-j
