@@ -1,6 +1,6 @@
 /* Set pieces K2, K4 and K7 and a function without transitions through both calls, printed as the program quiet prints them.
  *
- *   cc -I c c/example.c target/staticlib/libquiet_c.a -o example
+ *   cc -I c c/example.c crates/quiet_c/out/libquiet_c.a -o example
  */
 #include "quiet.h"
 #include <stdio.h>

@@ -1,6 +1,6 @@
 /* A proved minimiser and verifier for hazard-free two-level logic.
  *
- * Link with target/staticlib/libquiet_c.a, which `rt staticlib quiet_c` writes (x86-64).
+ * Link with crates/quiet_c/out/libquiet_c.a, which `rt lib` writes in crates/quiet_c (x86-64).
  *
  * There are n inputs, 1 to 10, numbered from 0. A point is a number from 0 to 2^n - 1; input i has weight 2^i in it.
  * table:        2^n bytes, one for each point: 0, 1, or 2 for don't care.

@@ -1,11 +1,11 @@
-//! Links the static library that `rt staticlib quiet_c` writes. `QUIET_C_DIR` names another folder for it.
+//! Links the static library that `rt lib` writes in crates/quiet_c. `QUIET_C_DIR` names another folder for it.
 
 use std::env;
 use std::path::PathBuf;
 
 fn main() {
     let dir = env::var_os("QUIET_C_DIR").map_or_else(
-        || PathBuf::from(env!("CARGO_MANIFEST_DIR")).join("../../target/staticlib"),
+        || PathBuf::from(env!("CARGO_MANIFEST_DIR")).join("../../crates/quiet_c/out"),
         PathBuf::from,
     );
     println!("cargo:rerun-if-env-changed=QUIET_C_DIR");

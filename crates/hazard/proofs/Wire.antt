@@ -116,7 +116,7 @@ record Moving (a b j i : ℕ) (p : Cube) (w : Wire) : Type 0 where
   moving : bit a w.input ≢ bit b w.input
 
 module _ (a b : ℕ) where
-  -- The test by which wiresOf takes a wire.
+  -- The test by which wires_of takes a wire.
   abbrev taken : ℕ → ℕ → Bool
   taken i d = not (eqb d 2) && not (eqb (bit a i) (bit b i))
 
