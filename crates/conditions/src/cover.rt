@@ -11,7 +11,7 @@ use rows::whole::{has_row, whole_into};
 
 // Some product contains the required cube. The products are the rows of the columns; `rows` is room for a set of them.
 pub fn covers(n: usize, products: &[u64], columns: &[u64], rows: &mut [u64], r: u64) -> bool
-    requires n_bound { (n ≤ 10) × Fits columns.now rows.old × (length products.now ≤ 64 * length rows.old) }
+    requires fits { (n ≤ 10) × Fits columns.now rows.old × (length products.now ≤ 64 * length rows.old) }
     requires containing { Containing n products.now columns.now }
     ensures { result ≡ covered (network_in n products.now) (cube_in n r) }
 {

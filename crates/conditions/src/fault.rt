@@ -71,7 +71,7 @@ fn met_by(n: usize, context: &[u64], met: Place, j: u16, c: Cube) -> Place
 // first illegal intersection waits for its end.
 fn product_fault(n: usize, context: &[u64], products: &[u64]) -> Verdict
     requires ready { Ready n context.now × (length products.now ≤ most_products) }
-    requires by_index { (i : ℕ) → CleanWord n (get_or products.now i 0) }
+    requires clean { (i : ℕ) → CleanWord n (get_or products.now i 0) }
     ensures { verdict_of result
         ≡ spec.first_fault (spec.fault_a n (off_in context.now) (network_in n products.now))
         (spec.fault_c (privileged_of n context.now) (network_in n products.now)) none }
@@ -94,7 +94,7 @@ fn product_fault(n: usize, context: &[u64], products: &[u64]) -> Verdict
 
 // (b) in the order of required cubes. The products are the rows of the columns; `rows` is room for a set of them.
 fn fault_b(n: usize, required: &[u64], products: &[u64], columns: &[u64], rows: &mut [u64]) -> Unmet
-    requires n_bound { (n ≤ 10) × Fits columns.now rows.old × (length products.now ≤ 64 * length rows.old) }
+    requires fits { (n ≤ 10) × Fits columns.now rows.old × (length products.now ≤ 64 * length rows.old) }
     requires containing { Containing n products.now columns.now }
     ensures { unmet_of n result ≡ spec.fault_b (map (required_in n) required.now) (network_in n products.now) }
 {
@@ -118,7 +118,7 @@ pub fn first_fault(
     columns: &mut [u64],
 ) -> Verdict
     requires ready { Ready n context.now × (length products.now ≤ most_products) × (length products.now ≤ 64 * stride columns.old) }
-    requires by_index { (i : ℕ) → CleanWord n (get_or products.now i 0) }
+    requires clean { (i : ℕ) → CleanWord n (get_or products.now i 0) }
     ensures { verdict_of result
         ≡ spec.first_fault (spec.fault_a n (off_in context.now) (network_in n products.now))
         (spec.fault_c (privileged_of n context.now) (network_in n products.now))

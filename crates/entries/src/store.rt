@@ -48,8 +48,8 @@ pub fn word_into(
     out: &mut [u64],
     at: usize,
 ) -> usize
-    requires n_bound { (n ≤ 10) × (w < 16) × Below (2 ^ n) w labels × ((x : ℕ) → x < 2 ^ n → corner_of corner x < 2 ^ n) }
-    requires labels_bound { at + length (points_in w labels) ≤ 2 ^ 32 }
+    requires points { (n ≤ 10) × (w < 16) × Below (2 ^ n) w labels × ((x : ℕ) → x < 2 ^ n → corner_of corner x < 2 ^ n) }
+    requires room { at + length (points_in w labels) ≤ 2 ^ 32 }
     ensures { Stored n (required_in n) out.old out.new at result (map (required_at n t corner) (points_in w labels)) }
 {
     let mut left = labels;

@@ -8,8 +8,8 @@ use rows::member::without_lowest;
 
 // Product j is noted for the rows of word b of a set.
 fn note_word(firsts: &mut [u16], b: usize, word: u64, j: u16)
-    requires b_lt_most_words { b < most_words }
-    requires by_index { (i : ℕ) → T (in_word b word i) → i < length firsts.old }
+    requires block { b < most_words }
+    requires room { (i : ℕ) → T (in_word b word i) → i < length firsts.old }
     ensures { (i : ℕ) → get_or firsts.new i 0 ≡ cond (in_word b word i) j (get_or firsts.old i 0) }
 {
     let mut left = word;
@@ -21,8 +21,8 @@ fn note_word(firsts: &mut [u16], b: usize, word: u64, j: u16)
 
 // Product j is noted for the rows of a set.
 pub fn note(firsts: &mut [u16], set: &[u64], j: u16)
-    requires set_len_bound { length set.now ≤ most_words }
-    requires by_index { (i : ℕ) → T (in_set set.now i) → i < length firsts.old }
+    requires few { length set.now ≤ most_words }
+    requires room { (i : ℕ) → T (in_set set.now i) → i < length firsts.old }
     ensures { (i : ℕ) → get_or firsts.new i 0 ≡ cond (in_set set.now i) j (get_or firsts.old i 0) }
 {
     let mut b = 0;

@@ -12,8 +12,8 @@ use rows::split::split;
 
 // The rows of word b of a set are flagged.
 fn flag_word(flags: &mut [bool], b: usize, word: u64)
-    requires b_lt_most_words { b < most_words }
-    requires by_index { (i : ℕ) → T (in_word b word i) → i < length flags.old }
+    requires block { b < most_words }
+    requires room { (i : ℕ) → T (in_word b word i) → i < length flags.old }
     ensures { (i : ℕ) → get_or flags.new i false ≡ cond (in_word b word i) true (get_or flags.old i false) }
 {
     let mut left = word;
@@ -25,8 +25,8 @@ fn flag_word(flags: &mut [bool], b: usize, word: u64)
 
 // The rows of a set are flagged.
 fn flag(flags: &mut [bool], set: &[u64])
-    requires set_len_bound { length set.now ≤ most_words }
-    requires by_index { (i : ℕ) → T (in_set set.now i) → i < length flags.old }
+    requires few { length set.now ≤ most_words }
+    requires room { (i : ℕ) → T (in_set set.now i) → i < length flags.old }
     ensures { (i : ℕ) → get_or flags.new i false ≡ cond (in_set set.now i) true (get_or flags.old i false) }
 {
     let mut b = 0;
@@ -46,8 +46,8 @@ pub fn flag_product(
     taken: &mut [u64],
     flags: &mut [bool],
 )
-    requires n_bound { (n ≤ 10) × Fits columns.now uncovered.old × (length taken.old ≡ length uncovered.old) }
-    requires by_index { (i : ℕ) → T (in_set uncovered.old i) → i < length flags.old }
+    requires fits { (n ≤ 10) × Fits columns.now uncovered.old × (length taken.old ≡ length uncovered.old) }
+    requires room { (i : ℕ) → T (in_set uncovered.old i) → i < length flags.old }
     ensures { Flagging (λ i. allowed_to columns.now i c n) uncovered.old uncovered.new taken.new flags.old flags.new }
 {
     split(n, columns, c, uncovered, taken);

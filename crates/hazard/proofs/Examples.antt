@@ -1,6 +1,6 @@
 -- Problems that meet the hypotheses of the theorems.
 use mathlib.Core.Path.{◌≡◌, refl, sym, subst⁻¹}
-use mathlib.Core.Bool.{true, cond}
+use mathlib.Core.Bool.{true, false, cond}
 use mathlib.Core.List.Memᴰ
 use mathlib.Core.List.{List, [], ◌∷◌, map}
 use mathlib.Core.Option.{none}
@@ -22,6 +22,7 @@ use Rattle.hazard.specs.Verdict.{products, passed, holds_zero, uncovered, verdic
 use Rattle.hazard.specs.Minimal.{FirstBlocking}
 use Rattle.hazard.specs.Classical.{Implicant, PrimeImplicant, Realises, IrredundantCover, cover_checks}
 use Rattle.hazard.specs.Pieces.{net5}
+use Rattle.hazard.specs.Shown.{stays_high}
 use Rattle.hazard.proofs.Search.{none-some}
 use Rattle.hazard.proofs.Verdict.{checked_passed, verified}
 use Rattle.hazard.proofs.Meaning.{inside_points}
@@ -58,6 +59,10 @@ point-uncovered = refl
 -- The same where point 0, the default of a list's end, is such a 1; where it is one and covered; and where it is a 0.
 pub point_0_uncovered : verdict 2 (1 ∷ 0 ∷ 0 ∷ 1 ∷ []) (1 ∷ 1 ∷ []) [] ≡ uncovered 1 0
 point_0_uncovered = refl
+
+-- No run is due for it: its number is past the last transition, though what is read there would go from 1 to 1.
+pub point_0_at_rest : stays_high (1 ∷ 0 ∷ 0 ∷ 1 ∷ []) (1 ∷ 1 ∷ []) 1 ≡ false
+point_0_at_rest = refl
 
 pub point_3_uncovered : verdict 2 (1 ∷ 0 ∷ 0 ∷ 1 ∷ []) (1 ∷ 1 ∷ []) (0 ∷ 0 ∷ []) ≡ uncovered 1 3
 point_3_uncovered = refl

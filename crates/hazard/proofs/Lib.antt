@@ -9,7 +9,9 @@ pub mod Meaning
 -- The input rules, and the sets that they let through.
 pub mod Rules
 pub mod Numbers
+pub mod Order
 pub mod Sets
+pub mod Burst
 pub mod Few
 pub mod Monotone
 pub mod Source
@@ -31,6 +33,7 @@ pub mod Moment
 pub mod Label
 pub mod One
 pub mod Transition
+pub mod Covers
 pub mod Theorem
 pub mod Verdict
 pub mod Blocking
@@ -44,3 +47,8 @@ pub mod Essential
 pub mod Pieces
 pub mod Accepted
 pub mod Examples
+-- The run that shows a fault.
+pub mod Pulse
+pub mod Rest
+pub mod Shown
+pub mod Replayed

@@ -29,7 +29,8 @@ use Rattle.hazard.proofs.Network.{without_member, covered_by}
 use Rattle.hazard.proofs.Implicant.{prime-is}
 use Rattle.hazard.proofs.Existence.{dhf-cover, cover_exists}
 use Rattle.hazard.proofs.Single.{cover-transitions}
-use Rattle.hazard.proofs.Theorem.{hazard_free-visited, visited→cover, cover_hazard_free}
+use Rattle.hazard.proofs.Covers.{hazard_free-visited}
+use Rattle.hazard.proofs.Theorem.{visited→cover, cover_hazard_free}
 use Rattle.hazard.proofs.Blocking.{block_none}
 
 -- What the network covers and its rest does not lies in the product left out.

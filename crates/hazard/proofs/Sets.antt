@@ -1,6 +1,5 @@
 -- The entries of the lists of required and of privileged cubes, and their order.
 use mathlib.Core.Path.{◌≡◌, refl, sym, ap, subst, subst⁻¹}
-use mathlib.Core.HLevel.{×_prop, →_prop}
 use mathlib.Core.Logic.{◌⊎◌, inl, inr, ∥∥₁_elim}
 use mathlib.Core.Bool.{Bool, true, false}
 use mathlib.Core.List.Memᴰ
@@ -14,11 +13,12 @@ use lib.Dec.{T}
 use Rattle.hazard.specs.Search.{those}
 use Rattle.hazard.specs.Cube.{span}
 use Rattle.hazard.specs.Transition.{start, end, count, visits, visited, Kind, low, rise, fall, high}
-use Rattle.hazard.specs.Sets.{Required, Privileged, maximal_label, labels, dynamic, kind_at, start_at, single_points, required_of, required_from, of_transitions, unvisited, of_points, required, privileged_from, privileged}
+use Rattle.hazard.specs.Sets.{Required, Privileged, maximal_label, labels, dynamic, kind_at, start_at, required_of, required_from, of_transitions, unvisited, of_points, required, privileged_from, privileged}
 use Rattle.hazard.proofs.Test.{so, so_not}
 use Rattle.hazard.proofs.Search.{any_e, any_i, those_e, those_i, those_order}
 use Rattle.hazard.proofs.Cube.{Digits, span-digits}
 use Rattle.hazard.proofs.Implicant.{Wide}
+use Rattle.hazard.proofs.Order.{Before, before_prop, points_order}
 
 -- A visited point has a transition that visits it.
 pub visited_e : (n : ℕ) (ts : List ℕ) (x : ℕ) → T (visited n ts x) → (k : ℕ) × (k < count ts) × T (visits n ts k x)
@@ -31,22 +31,11 @@ visited_i n ts x k l t = any_i (λ k. visits n ts k x) (count ts) k l t
 abbrev pub point_at : ℕ → List ℕ → ℕ → Required
 point_at n ts x = record { transition = count ts; label = x; cube = span n x x }
 
--- In order of transition, and for one transition in order of label.
-abbrev pub Before : Required → Required → Type 0
-Before r s = (r.transition ≤ s.transition) × (r.transition ≡ s.transition → r.label < s.label)
-
-before_prop : (r s : Required) → IsProp (Before r s)
-before_prop r s = ×_prop le_prop (→_prop le_prop)
-
 labels_order : (n : ℕ) (f : List ℕ) (k : Kind) (a b : ℕ) → Pairwise (λ x y. x < y) (labels n f k a b)
 labels_order n f low a b = Pairwise.nil
 labels_order n f rise a b = those_order (maximal_label n f b a) 0 (2 ^ n)
 labels_order n f fall a b = those_order (maximal_label n f a b) 0 (2 ^ n)
 labels_order n f high a b = Pairwise-singleton (λ x y. x < y) b
-
--- Single points stand in ascending order.
-points_order : (n k : ℕ) (set : ℕ → Bool) → Pairwise Before (single_points n k set)
-points_order n k set = Pairwise.map {S = Before} before_prop (λ x. record { transition = k; label = x; cube = span n x x }) (λ x y l. (omega arith, λ e. l)) (those_order set 0 (2 ^ n))
 
 module _ (n : ℕ) (f ts : List ℕ) where
   -- The labels of transition k, and its required cube with the label x.

@@ -1,73 +1,34 @@
 -- Nowick and Dill's theorem: a network is a hazard-free cover exactly if it is hazard-free.
 use mathlib.Core.Path.{◌≡◌, subst}
 use mathlib.Core.Logic.{◌↔◌, inl, inr}
-use mathlib.Core.Bool.{true, false}
 use mathlib.Core.List.{List, Memᴰ}
 use Prim.Native.Nat.{ℕ, ◌^◌, ◌<◌}
 use lib.Dec.{T, eqb→eq}
 use lib.ListN.{length}
-use Rattle.hazard.specs.Cube.{Cube, has, span}
+use Rattle.hazard.specs.Cube.{Cube, has}
 use Rattle.hazard.specs.Transition.{value, start, end, count, off}
 use Rattle.hazard.specs.Sets.{Required, Privileged, kind_at, start_at, of_transitions, unvisited, privileged}
 use Rattle.hazard.specs.Implicant.{illegal}
-use Rattle.hazard.specs.Cover.{Network, product_at, WellFormed, gives, covered, Cover, HazardFreeCover}
-use Rattle.hazard.specs.Run.{Allowed}
+use Rattle.hazard.specs.Cover.{Network, product_at, WellFormed, covered, Cover, HazardFreeCover}
 use Rattle.hazard.specs.HazardFree.{HazardFree, VisitedHazardFree}
 use Rattle.hazard.specs.Refusal.{Accepted}
-use Rattle.hazard.proofs.Test.{tests, is, isnt, so, so_not, known, eqb_of}
-use Rattle.hazard.proofs.Cube.{has→, →has, inside→, inside-has, span-digits}
-use Rattle.hazard.proofs.Implicant.{illegal→, →illegal}
+use Rattle.hazard.proofs.Test.{tests, so, so_not}
+use Rattle.hazard.proofs.Cube.{has→, →has, span-digits}
+use Rattle.hazard.proofs.Implicant.{illegal→}
 use Rattle.hazard.proofs.Rules.{rules_at}
-use Rattle.hazard.proofs.Network.{entry_at, at_places, Products, well_formed→, gives_e, gives_i, covered_e, covered_joint, covered-point}
-use Rattle.hazard.proofs.Sets.{required_at, point_at, privileged_at, transition_i, transition_e, point_e, required-transition, required_cases, privileged_i, privileged_e}
-use Rattle.hazard.proofs.One.{one-required}
-use Rattle.hazard.proofs.Moment.{Runs}
-use Rattle.hazard.proofs.Transition.{Anchored, CoverAt, runs_at, cover_at}
-
--- A hazard-free network is so at the visited 1s.
-pub hazard_free-visited : {n : ℕ} {f ts : List ℕ} {net : Network} → HazardFree n f ts net → VisitedHazardFree n f ts net
-hazard_free-visited h = record { zeros = h.zeros; ones = λ k l x m t. h.ones x m; runs = h.runs }
+use Rattle.hazard.proofs.Network.{at_places, Products, well_formed→, gives_i, covered_joint, covered-point}
+use Rattle.hazard.proofs.Sets.{point_at, privileged_at, transition_e, point_e, required_cases, privileged_e}
+use Rattle.hazard.proofs.Transition.{Anchored, CoverAt, cover_at}
+use Rattle.hazard.proofs.Covers.{hazard_free-visited, cover→hazard_free}
 
 module _ (n : ℕ) (f ts : List ℕ) (net : Network) (accepted : Accepted n f ts) (well : WellFormed n net) where
   good : Products n net
   good = well_formed→ well
 
-  -- No product intersects the privileged cube of transition k illegally exactly if every product that has a point of it contains its start point.
-  legal→ : (k : ℕ) → ((j : ℕ) → j < length net → ¬ T (illegal (product_at net j) (privileged_at n f ts k))) → Anchored n (start ts k) (end ts k) net (start_at f ts k)
-  legal→ k h j l x t u = elim (known (has (product_at net j) (start_at f ts k))) [
-    | inl s ↦ s
-    | inr s ↦ absurd (h j l (→illegal {v = privileged_at n f ts k} (good j l) (span-digits n (start ts k) (end ts k)) (record {
-      shared = x;
-      mine = has→ (product_at net j) x t;
-      its = has→ (span n (start ts k) (end ts k)) x u;
-      lacks = λ i. s (→has i);
-    })))
-  ]
-
   →legal : (k : ℕ) → Anchored n (start ts k) (end ts k) net (start_at f ts k) → (j : ℕ) → j < length net → ¬ T (illegal (product_at net j) (privileged_at n f ts k))
   →legal k h j l t =
       let i = illegal→ {v = privileged_at n f ts k} (good j l) (span-digits n (start ts k) (end ts k)) t in
       i.lacks (has→ (product_at net j) (start_at f ts k) (h j l i.shared (→has i.mine) (→has i.its)))
-
-  pub cover→hazard_free : HazardFreeCover n f ts net → HazardFree n f ts net
-  cover→hazard_free h = record { zeros = zeros'; ones = ones'; runs = runs' }
-    where
-      zeros' : (x : ℕ) → x < 2 ^ n → value f x ≡ 0 → gives net x ≡ false
-      zeros' x l z = isnt (gives net x) (λ t. let r = gives_e net x t in h.a (product_at net r.0) (entry_at net r.0 r.1) x l (eqb_of z) r.2)
-
-      ones' : (x : ℕ) → x < 2 ^ n → value f x ≡ 1 → gives net x ≡ true
-      ones' x l v =
-          let (r, m, t) = one-required n f ts accepted x l v in
-          let (j, u, i) = covered_e net r.cube (h.b r m) in
-          is (gives_i net x j u (→has (inside-has (inside→ r.cube (product_at net j) i) (has→ r.cube x t))))
-
-      runs' : (k : ℕ) → k < count ts → Runs (start ts k) (end ts k) net (Allowed (kind_at f ts k))
-      runs' k l =
-          runs_at n f net (start ts k) (end ts k) good zeros' (λ x m t. ones' x m) (kind_at f ts k) (rules_at n f ts accepted k l)
-          (record {
-            cubes = λ x m. (covered_joint n net good (start_at f ts k) x).0 (h.b (required_at n f ts k x) (required-transition n f ts (transition_i n f ts k x l m)));
-            legal = λ d. legal→ k (λ j u. h.c (product_at net j) (entry_at net j u) (privileged_at n f ts k) (privileged_i n f ts k l d));
-          })
 
   -- The way back, from the visited 1s alone: the required cubes of the transitions are covered.
   pub visited→cover : VisitedHazardFree n f ts net → Cover n (off f) (of_transitions n f ts) (privileged n f ts) net
@@ -98,4 +59,4 @@ module _ (n : ℕ) (f ts : List ℕ) (net : Network) (accepted : Accepted n f ts
 
   -- Theorem 2.10 of the source.
   pub cover_hazard_free : HazardFreeCover n f ts net ↔ HazardFree n f ts net
-  cover_hazard_free = (cover→hazard_free, hazard_free→cover)
+  cover_hazard_free = (cover→hazard_free n f ts net accepted well, hazard_free→cover)

@@ -22,7 +22,7 @@ use Rattle.hazard.proofs.Test.{T_and, no_or, sure}
 use Rattle.hazard.proofs.Rules.{lets}
 use Rattle.hazard.proofs.Search.{none-some, first-none, none_first, find_none, place_none, first_of-none, entries, first_of-append, First, lowest, first-is, Find, hit, find-is, Earlier, Place, placed, place_is}
 use Rattle.hazard.proofs.Network.{entry_at, at_places}
-use Rattle.hazard.proofs.Sets.{labels_at, transition_e, point_e, required_cases}
+use Rattle.hazard.proofs.Sets.{labels_at, transition_e, point_e, required_cases, privileged_e}
 use Rattle.hazard.proofs.Theorem.{cover_hazard_free}
 
 -- How many products a network's bytes are cut into.
@@ -136,6 +136,19 @@ module _ (n : ℕ) (f ts : List ℕ) (net : Network) where
       stages none ea pa none ec pc (some r) eb (hit m t h) = cube_named m (T_not (covered net r.cube) t) h ((none-a n f ts net).0 ea) ((none-c n f ts net).0 ec)
       stages none ea pa none ec pc none eb fb = none_named (record { a = (none-a n f ts net).0 ea; b = (none-b n f ts net).0 eb; c = (none-c n f ts net).0 ec })
 
+  -- Verdict 3 names a transition of the list.
+  pub intersects_names : (j k : ℕ) → fault n f ts net ≡ intersects j k → k < count ts
+  intersects_names j k e = go (fault n f ts net) fault_named e
+    where
+      go : (v : Verdict) → Named n f ts net v → v ≡ intersects j k → k < count ts
+      go passed w e = let z : ◌≡◌ {A = ℕ} 0 1 = cc in absurd (omega arith)
+      go (holds_zero i y) w e = let z : ◌≡◌ {A = ℕ} 0 1 = cc in absurd (omega arith)
+      go (uncovered i y) w e = let z : ◌≡◌ {A = ℕ} 0 1 = cc in absurd (omega arith)
+      go (refused r) w e = elim w [ ]
+      go (intersects i y) (illegal_named m t u w a c) e =
+          let (h, l, d, g) = privileged_e n f ts t in
+          omega (arith, ap (λ (v : Verdict). (fields_of v).transition) e, ap (λ (v : Privileged). v.transition) g)
+
   -- Verdict 4 names a transition of the list and one of its labels, or the number of transitions and a 1 that none of them visits.
   pub uncovered_names : (k x : ℕ) → fault n f ts net ≡ uncovered k x → ((k < count ts) × Memᴰ x (labels_at n f ts k)) ⊎ ((k ≡ count ts) × (x < 2 ^ n) × T (unvisited n f ts x))
   uncovered_names k x e = go (fault n f ts net) fault_named e
@@ -186,6 +199,10 @@ products_fit n bytes e =
     let t = no_or (not (eqb (length bytes % n) 0)) (ltb most_products (length bytes / n)) (lets (not (eqb (length bytes % n) 0) || ltb most_products (length bytes / n)) 11 e) in
     let h : ¬ (most_products < length bytes / n) = λ l. t.1 (lt→ltb most_products (length bytes / n) l) in
     (eqb→eq (length bytes % n) 0 (sure (eqb (length bytes % n) 0) t.0), omega arith)
+
+-- It has no more products than the limit.
+pub products-few : (n : ℕ) (bytes : List ℕ) → products_check n bytes ≡ none → length (products n bytes) ≤ most_products
+products-few n bytes e = omega (arith, products-length n bytes, (products_fit n bytes e).1)
 
 module _ (n : ℕ) (f ts bytes : List ℕ) where
   -- The verifier's checks refuse nothing.

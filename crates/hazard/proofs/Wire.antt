@@ -1,7 +1,7 @@
 -- Lists of wires, by how often each wire stands in them; and the wires of a network.
-use mathlib.Core.Path.{◌≡◌, refl, sym, ◌∙◌, subst, subst⁻¹}
+use mathlib.Core.Path.{◌≡◌, refl, sym, ap, ◌∙◌, subst, subst⁻¹}
 use mathlib.Core.Logic.{◌≢◌, inl, inr}
-use mathlib.Core.Bool.{Bool, true, false, not, ◌&&◌}
+use mathlib.Core.Bool.{Bool, true, false, not, ◌&&◌, ◌||◌}
 use mathlib.Core.List.{List, [], ◌∷◌, ◌++◌}
 use Prim.Native.Nat.{ℕ, zero, suc, ◌+◌, ◌≤◌, ◌<◌}
 use native.Mathlib.Nat.{not-suc-le-zero, le_of_suc-le-suc, zero-add, add-zero}
@@ -11,6 +11,7 @@ use lib.ListN.{length}
 use Rattle.hazard.specs.Cube.{Cube, bit}
 use Rattle.hazard.specs.Cover.{Network, product_at}
 use Rattle.hazard.specs.Run.{Wire, same_wire, seen, times, wires_of, wires, Run}
+use Rattle.hazard.specs.Pulse.{passing}
 use Rattle.hazard.proofs.Test.{tests, so, so_not, or_l, or_r, or_e, known, cond_yes, cond_no}
 use Rattle.hazard.proofs.Point.{dig}
 
@@ -68,12 +69,10 @@ times_after [] m w = sym (zero-add (times m w))
 times_after (v ∷ vs) m w = omega (arith, times_after vs (v ∷ m) w)
 
 -- The wires that pass a test, in their order.
-pub select : (Wire → Bool) → List Wire → List Wire
-select q [] = []
-select q (w ∷ ws) = elim (q w) [ true ↦ w ∷ select q ws | false ↦ select q ws ]
+abbrev pub select : (Wire → Bool) → List Wire → List Wire
+select = passing
 
 pub times_selected : (q : Wire → Bool) (r : List Wire) (w : Wire) → T (q w) → times (select q r) w ≡ times r w
-unfolding select
 times_selected q [] w t = refl
 times_selected q (v ∷ vs) w t = go (q v) refl (times_selected q vs w t)
   where
@@ -82,7 +81,6 @@ times_selected q (v ∷ vs) w t = go (q v) refl (times_selected q vs w t)
     go false e h = omega (arith, times-other v vs w (λ u. so_not e (subst⁻¹ (λ (x : Wire). T (q x)) (same-eq v w u) t)))
 
 pub times-left : (q : Wire → Bool) (r : List Wire) (w : Wire) → ¬ T (q w) → times (select q r) w ≡ 0
-unfolding select
 times-left q [] w t = refl
 times-left q (v ∷ vs) w t = go (q v) refl (times-left q vs w t)
   where
@@ -97,6 +95,38 @@ times_parted q r w =
       | inl t ↦ omega (arith, times_selected q r w t, times-left (λ x. not (q x)) r w (λ u. T_not (q w) u t))
       | inr t ↦ omega (arith, times-left q r w t, times_selected (λ x. not (q x)) r w (not_T (q w) t))
     ]
+
+-- A list with the first place of a wire taken out.
+abbrev without_wire : Wire → List Wire → List Wire
+without_wire v [] = []
+without_wire v (w ∷ ws) = elim (same_wire w v) [ true ↦ ws | false ↦ w ∷ without_wire v ws ]
+
+length_without : (v : Wire) (s : List Wire) → T (seen s v) → length s ≡ suc (length (without_wire v s))
+length_without v [] t = absurd t
+length_without v (w ∷ ws) t = go (same_wire w v) t (length_without v ws)
+  where
+    go : (b : Bool) → T (b || seen ws v) → (T (seen ws v) → length ws ≡ suc (length (without_wire v ws)))
+        → suc (length ws) ≡ suc (length {A = Wire} (elim b [ true ↦ ws | false ↦ w ∷ without_wire v ws ]))
+    go true t h = refl
+    go false t h = ap suc (h t)
+
+times-without : (v : Wire) (s : List Wire) → T (seen s v) → (w : Wire) → times s w ≡ times (v ∷ []) w + times (without_wire v s) w
+times-without v [] t w = absurd t
+times-without v (u ∷ us) t w = go (same_wire u v) refl t (times-without v us)
+  where
+    go : (b : Bool) → same_wire u v ≡ b → T (b || seen us v) → (T (seen us v) → (w : Wire) → times us w ≡ times (v ∷ []) w + times (without_wire v us) w)
+        → times (u ∷ us) w ≡ times (v ∷ []) w + times (elim b [ true ↦ us | false ↦ u ∷ without_wire v us ]) w
+    go true e t h = rw (same-eq u v (so e)) (omega arith)
+    go false e t h = omega (arith, h t w)
+
+-- Lists that count each wire alike are of one length.
+times-length : (r s : List Wire) → ((w : Wire) → times r w ≡ times s w) → length r ≡ length s
+times-length [] [] h = refl
+times-length [] (v ∷ vs) h = absurd (omega (arith, h v, times-same v vs v (same_self v)))
+times-length (v ∷ vs) s h =
+    let t = times-seen s v (omega (arith, h v, times-same v vs v (same_self v))) in
+    let e = times-length vs (without_wire v s) (λ w. omega (arith, h w, times-without v s t w)) in
+    omega (arith, length_without v s t)
 
 -- A wire that is taken stands in front; what stands behind stays.
 seen_head : (c : Bool) (v : Wire) (vs : List Wire) → T c → T (seen (elim c [ true ↦ v ∷ vs | false ↦ vs ]) v)
@@ -225,3 +255,7 @@ module _ (a b : ℕ) where
           let k : j ≡ w.product = omega (arith, m.mine) in
           let i : m.place ≡ w.input = omega (arith, m.here) in
           record { place = omega (arith, l, k); literal = λ z. m.literal (rw (k, i) z); moving = m.moving }
+
+  -- So every run has as many wires as the network.
+  pub run_length : (net : Network) (r : List Wire) → Run a b net r → length r ≡ length (wires a b 0 net)
+  run_length net r h = times-length r (wires a b 0 net) h

@@ -18,3 +18,5 @@ pub mod Classical
 pub mod Source
 pub mod Piece
 pub mod Pieces
+pub mod Shown
+pub mod Pulse

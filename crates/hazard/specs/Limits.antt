@@ -16,3 +16,7 @@ most_cover = 10 * most_required
 -- The most products of a network that is verified.
 abbrev pub most_products : ℕ
 most_products = 3072
+
+-- The most wires of a run: ten inputs for each product.
+abbrev pub most_wires : ℕ
+most_wires = 10 * most_products

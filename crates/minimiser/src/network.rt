@@ -17,7 +17,7 @@ use selection::select::select;
 // At most 64 required cubes, in arrays of that size: an array is set to zero before it is used, and most problems are small.
 pub fn network_few(n: usize, context: &[u64], required: &[u64], cover: &mut [u8]) -> Minimised
     requires ready { Ready n context.now × (length required.now ≤ few_cubes) × (length required.now * n ≤ length cover.old) }
-    requires by_index { (k : ℕ) → CleanWord n (get_or required.now k 0) }
+    requires clean { (k : ℕ) → CleanWord n (get_or required.now k 0) }
     ensures { Answered n (off_in context.now) (privileged_of n context.now) (map (required_in n) required.now) cover.old cover.new (minimised_of result) }
 {
     let mut columns = [0u64; 30 * ((FEW + 63) / 64)];
@@ -31,7 +31,7 @@ pub fn network_few(n: usize, context: &[u64], required: &[u64], cover: &mut [u8]
 // As many required cubes as there can be.
 pub fn network_many(n: usize, context: &[u64], required: &[u64], cover: &mut [u8]) -> Minimised
     requires ready { Ready n context.now × (length required.now ≤ most_required) × (length required.now * n ≤ length cover.old) }
-    requires by_index { (k : ℕ) → CleanWord n (get_or required.now k 0) }
+    requires clean { (k : ℕ) → CleanWord n (get_or required.now k 0) }
     ensures { Answered n (off_in context.now) (privileged_of n context.now) (map (required_in n) required.now) cover.old cover.new (minimised_of result) }
 {
     let mut columns = [0u64; 30 * ((MOST_REQUIRED + 63) / 64)];

@@ -29,7 +29,7 @@ pub fn choose(
 ) -> Minimised
     requires ready { Ready n context.now × (length required.now ≤ most_required) × (length firsts.old ≡ length required.now) × (length required.now ≤ length products.old) }
     requires inside { Inside n required.now columns.now × (length required.now ≤ 64 * stride columns.now) }
-    requires by_index { (k : ℕ) → CleanWord n (get_or required.now k 0) }
+    requires clean { (k : ℕ) → CleanWord n (get_or required.now k 0) }
     ensures { Choice n (off_in context.now) (privileged_of n context.now) required.now firsts.new products.new result }
 {
     let b = (required.len() + 63) / 64;

@@ -47,7 +47,7 @@ fn widened(
 ) -> Cube
     requires ready { Ready n context.now }
     requires fits { Fits columns.now uncovered.now × (i < 64 * length uncovered.now) }
-    requires t { T (dhf_implicant n (off_in context.now) (privileged_of n context.now) (cube_of n c)) × Clean n c }
+    requires dhf { T (dhf_implicant n (off_in context.now) (privileged_of n context.now) (cube_of n c)) × Clean n c }
     ensures { PrimeOver n (off_in context.now) (privileged_of n context.now) (cube_of n c) result }
 {
     let b = i / 64;
@@ -79,7 +79,7 @@ pub fn product_for(
 ) -> Made
     requires ready { Ready n context.now × (i < length required.now) }
     requires fits { Fits columns.now uncovered.now × (i < 64 * length uncovered.now) }
-    requires by_index { (k : ℕ) → CleanWord n (get_or required.now k 0) }
+    requires clean { (k : ℕ) → CleanWord n (get_or required.now k 0) }
     ensures { MadeFor n (off_in context.now) (privileged_of n context.now) (get_or required.now i 0) result }
 {
     let w = required[i];

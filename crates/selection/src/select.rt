@@ -32,7 +32,7 @@ pub fn select(
     products: &mut [u64],
 ) -> Selected
     requires ready { Ready n context.now × (length required.now ≤ most_required) × (length required.now ≤ 64 * stride columns.old) × (length required.now ≤ length firsts.old) × (length required.now ≤ length products.old) }
-    requires by_index { (k : ℕ) → CleanWord n (get_or required.now k 0) }
+    requires clean { (k : ℕ) → CleanWord n (get_or required.now k 0) }
     ensures { Selects n (off_in context.now) (privileged_of n context.now) (map (required_in n) required.now) products.new result }
 {
     let count = required.len();

@@ -28,7 +28,7 @@ fn store_privileged(n: usize, k: Kind, t: u16, a: u16, b: u16, out: &mut [u64], 
 // The privileged cubes; how many, at most one for each transition.
 pub fn privileged_into(n: usize, context: &[u64], transitions: &[u16], out: &mut [u64]) -> usize
     requires ready { Ready n context.now transitions.now }
-    requires in_bounds { 64 ≤ length out.old }
+    requires room { 64 ≤ length out.old }
     ensures { (result ≤ 64) × Held n (privileged_in n) out.old out.new result (privileged n (table_in n context.now) transitions.now) }
 {
     let count = transitions.len() / 2;

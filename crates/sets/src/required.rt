@@ -31,7 +31,7 @@ fn dynamic_into(
     at: usize,
 ) -> usize
     requires planes { Planes n context.now × (s < 2 ^ n) × (e < 2 ^ n) }
-    requires n_bound { at + length (those (maximal_label n (table_in n context.now) s e) 0 (2 ^ n)) ≤ 2 ^ 32 }
+    requires room { at + length (those (maximal_label n (table_in n context.now) s e) 0 (2 ^ n)) ≤ 2 ^ 32 }
     ensures { Stored n (required_in n) out.old out.new at result (map (required_to n t s) (those (maximal_label n (table_in n context.now) s e) 0 (2 ^ n))) }
 {
     let walk = walk_over(n, span_of(n, s, e));
@@ -81,7 +81,7 @@ fn transition_into(
     at: usize,
 ) -> usize
     requires planes { Planes n context.now × (a < 2 ^ n) × (b < 2 ^ n) }
-    requires b_bound { at + length (required_by n (table_in n context.now) (kind_is k) t a b) ≤ 2 ^ 32 }
+    requires room { at + length (required_by n (table_in n context.now) (kind_is k) t a b) ≤ 2 ^ 32 }
     ensures { Stored n (required_in n) out.old out.new at result (required_by n (table_in n context.now) (kind_is k) t a b) }
 {
     match k {

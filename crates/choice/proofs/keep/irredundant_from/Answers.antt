@@ -76,7 +76,7 @@ slice_bounds-flag_product-end c = sym c.loop-j.invariant.1.all
 pub flag_product-requires : goal.flag_product-requires
 flag_product-requires c =
     let l = c.loop-j in
-    record { n_bound = (c.requires.0, lent_fits l.invariant.1 c.args.columns.now c.requires.3, lent_same l.invariant.1); by_index = λ i t. omega (arith, lent_rows l.invariant.1 i t, c.requires.1.many, l.invariant.1.all) }
+    record { fits = (c.requires.0, lent_fits l.invariant.1 c.args.columns.now c.requires.3, lent_same l.invariant.1); room = λ i t. omega (arith, lent_rows l.invariant.1 i t, c.requires.1.many, l.invariant.1.all) }
 
 pub loop-j-preserved-then-needed : goal.loop-j-preserved-then-needed
 loop-j-preserved-then-needed c =

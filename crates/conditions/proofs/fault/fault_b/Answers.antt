@@ -13,7 +13,7 @@ loop-k-init c = (refl, left-start)
 pub covers-requires : goal.covers-requires
 covers-requires c =
     let e = c.loop-k.invariant.0 in
-    record { n_bound = (c.requires.n_bound.0, omega (arith, c.requires.n_bound.1, e), omega (arith, c.requires.n_bound.2, e)); containing = c.requires.containing }
+    record { fits = (c.requires.fits.0, omega (arith, c.requires.fits.1, e), omega (arith, c.requires.fits.2, e)); containing = c.requires.containing }
 
 pub returns-then-not-covers : goal.returns-then-not-covers
 returns-then-not-covers c =

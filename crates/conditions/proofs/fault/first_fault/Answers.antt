@@ -20,7 +20,7 @@ unpassed (Intersects j k) h q = let z = ap (λ (x : spec.Verdict). (fields_of x)
 unpassed (Uncovered k x) h q = let z = ap (λ (x : spec.Verdict). (fields_of x).number) q in absurd (omega (arith, z))
 
 pub product_fault-fault-requires : goal.product_fault-fault-requires
-product_fault-fault-requires c = record { ready = (c.requires.ready.0, c.requires.ready.1); by_index = c.requires.by_index }
+product_fault-fault-requires c = record { ready = (c.requires.ready.0, c.requires.ready.1); clean = c.requires.clean }
 
 pub returns-in_default : goal.returns-in_default
 returns-in_default c =
@@ -31,7 +31,7 @@ pub blocks_into-requires : goal.blocks_into-requires
 blocks_into-requires c = (c.requires.ready.0.inputs, c.requires.ready.2)
 
 pub fault_b-requires : goal.fault_b-requires
-fault_b-requires c = record { n_bound = (c.requires.ready.0.inputs, search rules, search rules); containing = c.blocks_into.ensures }
+fault_b-requires c = record { fits = (c.requires.ready.0.inputs, search rules, search rules); containing = c.blocks_into.ensures }
 
 pub shape_of-columns-in-At : goal.shape_of-columns-in-At
 shape_of-columns-in-At c = c.blocks_into.auto.columns

@@ -21,7 +21,7 @@ loop-j-init c = judging_start _ _ _
 
 -- The cube that is looked at is clean, and stands for the product.
 looked : (c : After-cube_in-c) → let j = c.loop-j.j in Stands c.args.n c.cube_in-c.result (cube_in c.args.n (get_or c.args.products.now j 0))
-looked c = stands_in (c.requires.by_index c.loop-j.j) c.cube_in-c.ensures
+looked c = stands_in (c.requires.clean c.loop-j.j) c.cube_in-c.ensures
 
 look_is : (c : After-cube_in-c) → let j = c.loop-j.j in cube_of c.args.n c.cube_in-c.result ≡ product_at (network_in c.args.n c.args.products.now) j
 look_is c = product_read c.args.n c.args.products.now c.loop-j.j (omega arith) (looked c)

@@ -9,14 +9,14 @@ use Rattle.entries.proofs.Filling.{storing_start, storing_below, storing_room, s
 use Rattle.entries.proofs.store.word_into.Goals as goal
 
 pub loop-left-init : goal.loop-left-init
-loop-left-init c = storing_start _ _ c.args.out.now c.args.at (omega arith) c.requires.n_bound.2
+loop-left-init c = storing_start _ _ c.args.out.now c.args.at (omega arith) c.requires.points.2
 
 pub store-k-requires : goal.store-k-requires
 store-k-requires c =
     let l = c.loop-left in
     let ne = c.loop-left-test.true in
     let small : c.lowest_point-x.result < 2 ^ c.args.n = omega (arith, c.lowest_point-x.ensures, storing_below l.invariant ne) in
-    (c.requires.n_bound.0, omega (arith, c.corner_for.ensures, c.requires.n_bound.3 c.lowest_point-x.result small), small, storing_room l.invariant ne (2 ^ 32) c.requires.labels_bound)
+    (c.requires.points.0, omega (arith, c.corner_for.ensures, c.requires.points.3 c.lowest_point-x.result small), small, storing_room l.invariant ne (2 ^ 32) c.requires.room)
 
 pub overflow_cast-left : goal.overflow_cast-left
 overflow_cast-left c = omega (arith, trailing_le 64 c.loop-left.left)

@@ -8,7 +8,7 @@ loop-b-init c = placed_start _ _ _ _
 pub flag_word-requires : goal.flag_word-requires
 flag_word-requires c =
     let l = c.loop-b in
-    record { b_lt_most_words = omega (arith, c.requires.set_len_bound); by_index = λ i t. rw l.invariant.long (c.requires.by_index i (placed_word l.invariant i t)) }
+    record { block = omega (arith, c.requires.few); room = λ i t. rw l.invariant.long (c.requires.room i (placed_word l.invariant i t)) }
 
 pub loop-b-preserved : goal.loop-b-preserved
 loop-b-preserved c = placed_step c.loop-b.invariant (omega arith) c.flag_word.new.flags c.flag_word.auto.flags c.flag_word.ensures

@@ -5,7 +5,7 @@ use Rattle.flags.proofs.flag.flag_product.Goals as goal
 pub flag-requires : goal.flag-requires
 flag-requires c =
     let z = c.split in
-    record { set_len_bound = omega (arith, c.requires.n_bound.1, c.requires.n_bound.2, z.auto.taken); by_index = λ i t. c.requires.by_index i (taken-low z.ensures i t) }
+    record { few = omega (arith, c.requires.fits.1, c.requires.fits.2, z.auto.taken); room = λ i t. c.requires.room i (taken-low z.ensures i t) }
 
 pub returns : goal.returns
 returns c =

@@ -35,7 +35,7 @@ pub network_many-requires : goal.network_many-requires
 network_many-requires c =
     let q = c.store_required-count in
     let e = part_few c.args.n q.new.out q.result (all (goal.at.network_many-requires c).After-store_required-count) in
-    record { ready = (c.requires.1, omega (arith, e, few (goal.at.network_many-requires c).After-store_required-count), rw e c.requires.2); by_index = rw (sub-zero q.result) (taken-clean c.args.n q.result q.new.out q.ensures.clean) }
+    record { ready = (c.requires.1, omega (arith, e, few (goal.at.network_many-requires c).After-store_required-count), rw e c.requires.2); clean = rw (sub-zero q.result) (taken-clean c.args.n q.result q.new.out q.ensures.clean) }
 
 pub returns : goal.returns
 returns c =

@@ -41,7 +41,7 @@ network_few-requires c =
     let a = c.args in
     let l : a.n * a.count ≤ length a.cover.now = omega arith in
     let e = part_few a.n a.few.now a.count (problem-few c.requires.1 (omega arith)) in
-    record { ready = (c.requires.1.legal, omega (arith, e, c.requires.1.count', c.requires.1.room), rw e (room_enough a.n (table_in a.n a.context.now) a.transitions.now a.cover.now c.requires.0 a.count c.requires.1.count' l)); by_index = rw (sub-zero a.count) (taken-clean a.n a.count a.few.now c.requires.1.clean) }
+    record { ready = (c.requires.1.legal, omega (arith, e, c.requires.1.count', c.requires.1.room), rw e (room_enough a.n (table_in a.n a.context.now) a.transitions.now a.cover.now c.requires.0 a.count c.requires.1.count' l)); clean = rw (sub-zero a.count) (taken-clean a.n a.count a.few.now c.requires.1.clean) }
 
 pub returns : goal.returns
 returns c =

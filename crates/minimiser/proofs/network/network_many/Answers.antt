@@ -5,7 +5,7 @@ use Rattle.minimiser.proofs.network.network_many.Goals as goal
 
 pub select-selected-requires : goal.select-selected-requires
 select-selected-requires c =
-    record { ready = (c.requires.ready.0, omega (arith, c.requires.ready.1), c.requires.ready.1, c.requires.ready.1, c.requires.ready.1); by_index = c.requires.by_index }
+    record { ready = (c.requires.ready.0, omega (arith, c.requires.ready.1), c.requires.ready.1, c.requires.ready.1, c.requires.ready.1); clean = c.requires.clean }
 
 pub written-requires : goal.written-requires
 written-requires c =

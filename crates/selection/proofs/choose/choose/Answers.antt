@@ -39,7 +39,7 @@ pub product_for-made-requires : goal.product_for-made-requires
 product_for-made-requires c =
     let l = c.loop-i in
     let t = c.loop-i-test.true in
-    record { ready = (c.requires.ready.0, omega (arith, t)); fits = (lent_fits l.invariant.2 c.args.columns.now c.requires.inside.1, omega (arith, lent_wide l.invariant.2, t)); by_index = c.requires.by_index }
+    record { ready = (c.requires.ready.0, omega (arith, t)); fits = (lent_fits l.invariant.2 c.args.columns.now c.requires.inside.1, omega (arith, lent_wide l.invariant.2, t)); clean = c.requires.clean }
 
 pub shape_of-firsts-in-Blocked : goal.shape_of-firsts-in-Blocked
 shape_of-firsts-in-Blocked c = c.loop-i.invariant.0.choosing.whole ∙ sym c.requires.ready.2
@@ -71,7 +71,7 @@ slice_bounds-flag_product-end c = sym c.loop-i.invariant.2.all
 pub flag_product-requires : goal.flag_product-requires
 flag_product-requires c =
     let l = c.loop-i in
-    record { n_bound = (c.requires.ready.0.inputs, lent_fits l.invariant.2 c.args.columns.now c.requires.inside.1, lent_same l.invariant.2); by_index = λ i t. omega (arith, lent_rows l.invariant.2 i t, c.requires.ready.1, l.invariant.2.all) }
+    record { fits = (c.requires.ready.0.inputs, lent_fits l.invariant.2 c.args.columns.now c.requires.inside.1, lent_same l.invariant.2); room = λ i t. omega (arith, lent_rows l.invariant.2 i t, c.requires.ready.1, l.invariant.2.all) }
 
 pub slice_bounds-note-end : goal.slice_bounds-note-end
 slice_bounds-note-end c =
@@ -84,7 +84,7 @@ overflow_cast-m c = let l = c.loop-i in omega (arith, l.invariant.0.choosing.few
 pub note-requires : goal.note-requires
 note-requires c =
     let l = c.loop-i in
-    let z = c.flag_product in record { set_len_bound = took-few l.invariant.2 z.ensures z.auto.uncovered z.auto.taken; by_index = λ i t. omega (arith, took-low l.invariant.2 z.ensures z.auto.uncovered z.auto.taken i t, l.invariant.0.choosing.whole) }
+    let z = c.flag_product in record { few = took-few l.invariant.2 z.ensures z.auto.uncovered z.auto.taken; room = λ i t. omega (arith, took-low l.invariant.2 z.ensures z.auto.uncovered z.auto.taken i t, l.invariant.0.choosing.whole) }
 
 pub overflow_add-m : goal.overflow_add-m
 overflow_add-m c = let l = c.loop-i in record { fits = omega (arith, l.invariant.0.choosing.few, l.invariant.0.choosing.many, c.loop-i-test.true) }

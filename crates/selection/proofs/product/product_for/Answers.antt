@@ -11,14 +11,14 @@ use Rattle.selection.proofs.product.product_for.Goals as goal
 use Rattle.selection.proofs.product.product_for.Goals.{After-grow-grown}
 
 pub grow-grown-requires : goal.grow-grown-requires
-grow-grown-requires c = record { ready = c.requires.ready.0; clean = (stands_in (c.requires.by_index c.args.i) c.cube_in-cube.ensures).fits }
+grow-grown-requires c = record { ready = c.requires.ready.0; clean = (stands_in (c.requires.clean c.args.i) c.cube_in-cube.ensures).fits }
 
 -- The growth of the required cube.
 grows : (c : After-grow-grown)
     → let a = c.args in Grows a.n a.context.now (cube_in a.n (get_or a.required.now a.i 0)) c.grow-grown.result
 grows c =
     let w = get_or c.args.required.now c.args.i 0 in
-    subst (λ (q : Cube). Grows c.args.n c.args.context.now q c.grow-grown.result) (stands_in {w = w} (c.requires.by_index c.args.i) c.cube_in-cube.ensures).is c.grow-grown.ensures
+    subst (λ (q : Cube). Grows c.args.n c.args.context.now q c.grow-grown.result) (stands_in {w = w} (c.requires.clean c.args.i) c.cube_in-cube.ensures).is c.grow-grown.ensures
 
 pub returns-in_default : goal.returns-in_default
 returns-in_default c =
@@ -29,7 +29,7 @@ returns-in_default c =
 pub widened-requires : goal.widened-requires
 widened-requires c =
     let t = stage_legal c.args.n c.args.context.now (masks_digits c.args.n _ _) (grows (goal.at.widened-requires c).After-grow-grown) c.in-Legal.is in
-    record { ready = c.requires.ready.0; fits = c.requires.fits; t = (t.dhf, t.fits) }
+    record { ready = c.requires.ready.0; fits = c.requires.fits; dhf = (t.dhf, t.fits) }
 
 pub returns : goal.returns
 returns c =

@@ -4,7 +4,7 @@ use Rattle.selection.proofs.Products.{stage_start, stage_step, stage_end}
 use Rattle.selection.proofs.product.widened.Goals as goal
 
 pub loop-tries-init : goal.loop-tries-init
-loop-tries-init c = (stage_start c.args.n c.args.context.now c.requires.t.1 c.requires.t.0, omega (arith, c.requires.fits.0, c.requires.fits.1))
+loop-tries-init c = (stage_start c.args.n c.args.context.now c.requires.dhf.1 c.requires.dhf.0, omega (arith, c.requires.fits.0, c.requires.fits.1))
 
 pub overflow_cast-k : goal.overflow_cast-k
 overflow_cast-k c = omega (arith, trailing_le 64 c.loop-tries.tries)

@@ -22,7 +22,7 @@ part_size : (c : Start) → let a = c.args in length (take (length a.required.no
 part_size c = let a = c.args in length-take-le (length a.required.now - 0) a.firsts.now (omega (arith, c.requires.ready.3)) ∙ sub-zero (length a.required.now)
 
 pub choose-requires : goal.choose-requires
-choose-requires c = record { ready = (c.requires.ready.0, c.requires.ready.1, part_size (goal.at.choose-requires c).Start, c.requires.ready.4); inside = (c.blocks_into.ensures, wide (goal.at.choose-requires c).After-blocks_into); by_index = c.requires.by_index }
+choose-requires c = record { ready = (c.requires.ready.0, c.requires.ready.1, part_size (goal.at.choose-requires c).Start, c.requires.ready.4); inside = (c.blocks_into.ensures, wide (goal.at.choose-requires c).After-blocks_into); clean = c.requires.clean }
 
 -- What the choice says, of its answer.
 choice : (c : After-choose) {r : Minimised} → c.choose.result ≡ r

@@ -26,7 +26,7 @@ pub store_privileged-k-requires : goal.store_privileged-k-requires
 store_privileged-k-requires c =
     let r = c.requires.ready in
     let l = c.loop-t in
-    (r.planes.few, rw c.start_of-a.ensures (r.listed.within _), rw c.end_of-b.ensures (r.listed.within _), omega (arith, r.listed.few, c.requires.in_bounds, l.invariant.0, l.invariant.1, l.invariant.2.stored.long, c.loop-t-test.true))
+    (r.planes.few, rw c.start_of-a.ensures (r.listed.within _), rw c.end_of-b.ensures (r.listed.within _), omega (arith, r.listed.few, c.requires.room, l.invariant.0, l.invariant.1, l.invariant.2.stored.long, c.loop-t-test.true))
 
 pub loop-t-preserved : goal.loop-t-preserved
 loop-t-preserved c =

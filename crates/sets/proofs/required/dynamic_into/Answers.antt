@@ -42,7 +42,7 @@ pub word_into-k-requires : goal.word_into-k-requires
 word_into-k-requires c =
     let h = c.loop-step.invariant in
     let l = c.loop-step-test.true in
-    record { n_bound = (c.requires.planes.0.few, l, walked_below h l (found (goal.at.word_into-k-requires c).After-last_points-labels) (labels (goal.at.word_into-k-requires c).After-first_step-step), λ x i. c.requires.planes.1); labels_bound = walked_room h l (found (goal.at.word_into-k-requires c).After-last_points-labels) (2 ^ 32) c.requires.n_bound }
+    record { points = (c.requires.planes.0.few, l, walked_below h l (found (goal.at.word_into-k-requires c).After-last_points-labels) (labels (goal.at.word_into-k-requires c).After-first_step-step), λ x i. c.requires.planes.1); room = walked_room h l (found (goal.at.word_into-k-requires c).After-last_points-labels) (2 ^ 32) c.requires.room }
 
 pub next_step-step-requires : goal.next_step-step-requires
 next_step-step-requires c = let l = c.loop-step-test.true in (c.walk_over-walk.ensures.fits, l, c.loop-step.invariant.at'.on l)

@@ -35,7 +35,7 @@ word_into-k-requires c =
     let h = c.loop-step.invariant in
     let l = c.loop-step-test.true in
     let few = those-few (in_set c.args.set.now) 0 (2 ^ c.args.n) in
-    record { n_bound = (c.requires.0, l, walked_below h l c.set_points-points.ensures (all (goal.at.word_into-k-requires c).After-first_step-step), λ x i. omega (arith, i)); labels_bound = walked_room h l c.set_points-points.ensures (2 ^ 32) (omega (arith, c.requires.2, few, pow_mono {j = 10} c.requires.0)) }
+    record { points = (c.requires.0, l, walked_below h l c.set_points-points.ensures (all (goal.at.word_into-k-requires c).After-first_step-step), λ x i. omega (arith, i)); room = walked_room h l c.set_points-points.ensures (2 ^ 32) (omega (arith, c.requires.2, few, pow_mono {j = 10} c.requires.0)) }
 
 pub next_step-step-requires : goal.next_step-step-requires
 next_step-step-requires c = let l = c.loop-step-test.true in (c.walk_over-walk.ensures.fits, l, c.loop-step.invariant.at'.on l)

@@ -39,7 +39,7 @@ transition_into-k-requires c =
     let ts = a.transitions.now in
     let l = c.loop-t in
     let most = filling_room l.invariant.1 (2 ^ 32) (omega (arith, transitions-few a.n f ts r.listed.narrow 0 (spec.count ts) (omega arith), r.listed.few)) in
-    let step = ap length (required_step a.n f ts l.t c.loop-t-test.true) ∙ length-append (required_of a.n f ts l.t) (required_from a.n f ts (l.t + 1) (spec.count ts - (l.t + 1))) in record { planes = (r.planes, omega (arith, c.start_of-a.ensures, r.listed.within (2 * l.t)), omega (arith, c.end_of-b.ensures, r.listed.within (2 * l.t + 1))); b_bound = omega (arith, most, step, ap length (ends (goal.at.transition_into-k-requires c).After-kind_of)) }
+    let step = ap length (required_step a.n f ts l.t c.loop-t-test.true) ∙ length-append (required_of a.n f ts l.t) (required_from a.n f ts (l.t + 1) (spec.count ts - (l.t + 1))) in record { planes = (r.planes, omega (arith, c.start_of-a.ensures, r.listed.within (2 * l.t)), omega (arith, c.end_of-b.ensures, r.listed.within (2 * l.t + 1))); room = omega (arith, most, step, ap length (ends (goal.at.transition_into-k-requires c).After-kind_of)) }
 
 pub loop-t-preserved : goal.loop-t-preserved
 loop-t-preserved c =

@@ -7,13 +7,13 @@ use Rattle.sets.proofs.Gather.{by_size, by_is}
 use Rattle.sets.proofs.required.transition_into.Goals as goal
 
 pub dynamic_into-requires : goal.dynamic_into-requires
-dynamic_into-requires c = let a = c.args in record { planes = (c.requires.planes.0, omega (arith, c.requires.planes.2), omega (arith, c.requires.planes.1)); n_bound = omega (arith, c.requires.b_bound, by_size a.n (table_in a.n a.context.now) a.t a.a a.b (ap kind_is c.in-Rise.is)) }
+dynamic_into-requires c = let a = c.args in record { planes = (c.requires.planes.0, omega (arith, c.requires.planes.2), omega (arith, c.requires.planes.1)); room = omega (arith, c.requires.room, by_size a.n (table_in a.n a.context.now) a.t a.a a.b (ap kind_is c.in-Rise.is)) }
 
 pub dynamic_into-requires-in-Fall : goal.dynamic_into-requires-in-Fall
-dynamic_into-requires-in-Fall c = let a = c.args in record { planes = c.requires.planes; n_bound = omega (arith, c.requires.b_bound, by_size a.n (table_in a.n a.context.now) a.t a.a a.b (ap kind_is c.in-Fall.is)) }
+dynamic_into-requires-in-Fall c = let a = c.args in record { planes = c.requires.planes; room = omega (arith, c.requires.room, by_size a.n (table_in a.n a.context.now) a.t a.a a.b (ap kind_is c.in-Fall.is)) }
 
 pub static_into-requires : goal.static_into-requires
-static_into-requires c = let a = c.args in (c.requires.planes.0.few, c.requires.planes.1, c.requires.planes.2, omega (arith, c.requires.b_bound, by_size a.n (table_in a.n a.context.now) a.t a.a a.b (ap kind_is c.in-High.is)))
+static_into-requires c = let a = c.args in (c.requires.planes.0.few, c.requires.planes.1, c.requires.planes.2, omega (arith, c.requires.room, by_size a.n (table_in a.n a.context.now) a.t a.a a.b (ap kind_is c.in-High.is)))
 
 pub returns-in-Low : goal.returns-in-Low
 returns-in-Low c = let a = c.args in stored_as (by_is a.n (table_in a.n a.context.now) a.t a.a a.b (ap kind_is c.in-Low.is)) (stored_none a.out.now a.at)

@@ -10,7 +10,7 @@ pub first_fault-requires : goal.first_fault-requires
 first_fault-requires c =
     let p = c.requires in
     let r = c.read_network-count.ensures in
-    record { ready = (p.0, read_few r p.1.few, read_few r p.3); by_index = read_clean r }
+    record { ready = (p.0, read_few r p.1.few, read_few r p.3); clean = read_clean r }
 
 pub returns : goal.returns
 returns c =

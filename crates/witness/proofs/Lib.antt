@@ -1,0 +1,4 @@
+pub mod Moving
+pub mod Ahead
+pub mod Phases
+pub mod Shows

@@ -1,0 +1,2 @@
+pub mod Phase
+pub mod Shows

@@ -1,0 +1,48 @@
+-- The definitions' runs, for the code's.
+use Rattle.std.specs.Prelude.{◌≡◌, List, [], ◌++◌, ℕ, ◌*◌, ◌<◌, length, get_or, drop}
+use Rattle.hazard.specs.Transition.{count, start, end}
+use Rattle.hazard.specs.Cover.{Network}
+use Rattle.hazard.specs.Run.{Wire}
+use Rattle.hazard.specs.Verdict.{Verdict, refused, passed, holds_zero, intersects, uncovered}
+use Rattle.hazard.specs.Shown.{numbers}
+use Rattle.hazard.specs.Pulse as spec
+use Rattle.kinds.specs.Codes.{kind_is, kind_in}
+use Rattle.witness.specs.declared.pulse.Pulse.{Pulse}
+use Rattle.witness.specs.declared.pulse.Witness.{Witness}
+use Rattle.witness.specs.declared.pulse.Witness.TheVariants.{Run, Nothing}
+
+-- The wires that move in phase q.
+abbrev pub phase_in : Pulse → Network → ℕ → List Wire
+phase_in p net q = spec.in_phase (kind_is p.kind) p.product p.start p.end net q
+
+-- The whole run.
+abbrev pub run_in : Pulse → Network → List Wire
+run_in p net = spec.pulse (kind_is p.kind) p.product p.start p.end net
+
+abbrev pub witness_of : Witness → Network → List Wire
+witness_of (Run p) net = run_in p net
+witness_of Nothing net = []
+
+-- The run is that of transition k, with the kind that the planes say, for product j.
+pub record PulseOf (w ts : List ℕ) (j k : ℕ) (p : Pulse) : Type 0 where
+  pub kind' : kind_is p.kind ≡ kind_in w (start ts k) (end ts k)
+  pub product' : p.product ≡ j
+  pub start' : p.start ≡ start ts k
+  pub end' : p.end ≡ end ts k
+
+-- All ends are points of ten inputs.
+abbrev pub Ends : List ℕ → Type 0
+Ends ts = (i : ℕ) → get_or ts i 0 < 1024
+
+-- A transition that the verdict says is intersected is one of the list.
+abbrev pub Listed : List ℕ → Verdict → Type 0
+Listed ts (refused r) = Unit {0}
+Listed ts passed = Unit {0}
+Listed ts (holds_zero j x) = Unit {0}
+Listed ts (intersects j k) = k < count ts
+Listed ts (uncovered k x) = Unit {0}
+
+-- The wires stand at the buffer's beginning, the rest is as before, and they are counted.
+pub record Written (ws : List Wire) (before after : List ℕ) (size : ℕ) : Type 0 where
+  pub counted : size ≡ length ws
+  pub buffer : after ≡ numbers ws ++ drop (2 * length ws) before
