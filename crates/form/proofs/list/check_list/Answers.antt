@@ -30,4 +30,4 @@ returns-then-size-gt64 c =
 pub returns : goal.returns
 returns c =
     let l = c.args.transitions.now in
-    refuse_no (odd l || long l) 4 (neither (odd l) (long l) (λ t. c.if-size-eq1.false (eqb→eq (length l % 2) 1 t)) (λ t. omega (arith, ltb→lt 64 (count l) t)))
+    refuse_no (odd l || long l) 4 (neither (odd l) (long l) (λ t. omega (arith, eqb→eq (length l % 2) 1 t)) (λ t. omega (arith, ltb→lt 64 (count l) t)))

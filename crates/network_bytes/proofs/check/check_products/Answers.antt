@@ -26,4 +26,4 @@ pub returns : goal.returns
 returns c =
     let a = c.args in
     let m = length a.bytes.now in
-    c.refused-2.ensures ∙ refuse_yes (not (eqb (m % a.n) 0) || ltb most_products (m / a.n)) 11 (or_r (not (eqb (m % a.n) 0)) (ltb most_products (m / a.n)) (lt→ltb most_products (m / a.n) (omega (arith, c.if-bytes-n-le-MOST_PRODUCTS.false))))
+    c.refused-2.ensures ∙ refuse_yes (not (eqb (m % a.n) 0) || ltb most_products (m / a.n)) 11 (or_r (not (eqb (m % a.n) 0)) (ltb most_products (m / a.n)) (lt→ltb most_products (m / a.n) (omega arith)))

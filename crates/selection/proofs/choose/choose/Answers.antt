@@ -125,7 +125,7 @@ loop-i-preserved c =
     let a = c.args in
     let l = c.loop-i in
     let t = c.loop-i-test.true in
-    (turn_next a.n a.context.now l.invariant.0 t (choosing_skip l.invariant.0.choosing t (so c.if-not-flags-r.false)), l.invariant.1, l.invariant.2)
+    (turn_next a.n a.context.now l.invariant.0 t (choosing_skip l.invariant.0.choosing t (so (search rules))), l.invariant.1, l.invariant.2)
 
 pub shape_of-firsts : goal.shape_of-firsts
 shape_of-firsts c = c.loop-i.invariant.0.choosing.whole ∙ sym c.requires.ready.2

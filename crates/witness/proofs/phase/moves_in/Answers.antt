@@ -5,7 +5,6 @@ use Rattle.hazard.specs.Cube.{bit}
 use Rattle.hazard.specs.Pulse.{phase}
 use Rattle.kinds.specs.Codes.{kind_is}
 use Rattle.witness.proofs.Moving.{moves_absent, moves_still, moves_here}
-use borrow.Author.Rules.{rules}
 use Rattle.witness.proofs.phase.moves_in.Goals as goal
 
 pub returns-then-d-eq2 : goal.returns-then-d-eq2

@@ -4,7 +4,6 @@ use Prim.Native.Nat.{ℕ}
 use Rattle.hazard.specs.Pulse.{phase}
 use Rattle.kinds.specs.Codes.{kind_is}
 use Rattle.kinds.specs.declared.kind.Kind.{Kind}
-use borrow.Author.Rules.{rules}
 use Rattle.witness.proofs.phase.phase_of.Goals as goal
 
 pub returns-in-Rise : goal.returns-in-Rise

@@ -4,7 +4,6 @@ use Rattle.hazard.specs.Shown.{is_high}
 use Rattle.kinds.specs.Codes.{kind_is}
 use Rattle.kinds.specs.declared.kind.Kind.{Kind}
 use Rattle.witness.proofs.Shows.{past_run, other_run, high_run}
-use borrow.Author.Rules.{rules}
 use Rattle.witness.proofs.pulse.for_cube.Goals as goal
 
 pub returns-then-transitions-k : goal.returns-then-transitions-k

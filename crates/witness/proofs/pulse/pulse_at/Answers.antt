@@ -2,7 +2,6 @@ use mathlib.Core.Path.{refl, ap₂, ◌∙◌}
 use Prim.Native.Nat.{◌+◌, ◌*◌}
 use native.Mathlib.Omega.{arith}
 use Rattle.kinds.specs.Codes.{kind_in}
-use borrow.Author.Rules.{rules}
 use Rattle.witness.proofs.pulse.pulse_at.Goals as goal
 
 pub kind_of-requires : goal.kind_of-requires

@@ -1,11 +1,10 @@
-use mathlib.Core.Path.{sym, ap, subst, ◌∙◌}
+use mathlib.Core.Path.{◌≡◌, sym, ap, subst, subst⁻¹, ◌∙◌}
 use Rattle.hazard.specs.Pulse.{run_for}
 use Rattle.context.specs.Context.{table_in}
 use Rattle.conditions.specs.Answer.{verdict_of}
 use Rattle.conditions.specs.declared.fault.Verdict.{Verdict}
-use Rattle.witness.specs.Shows.{Listed}
+use Rattle.witness.specs.Shows.{witness_of, Listed}
 use Rattle.witness.proofs.Shows.{product_run}
-use borrow.Author.Rules.{rules}
 use Rattle.witness.proofs.pulse.witness_for.Goals as goal
 
 pub pulse_at-requires : goal.pulse_at-requires
@@ -31,4 +30,4 @@ returns-in-Intersects c n r net =
 pub returns-in-Uncovered : goal.returns-in-Uncovered
 returns-in-Uncovered c n r net =
     let a = c.args in
-    c.for_cube.ensures n r c.in-Uncovered.field-1 net ∙ sym (ap (λ (v : Verdict). run_for (table_in n a.context.now) a.transitions.now net (verdict_of v)) c.in-Uncovered.is)
+    subst⁻¹ (λ (v : Verdict). witness_of c.for_cube.result net ≡ run_for (table_in n a.context.now) a.transitions.now net (verdict_of v)) c.in-Uncovered.is (c.for_cube.ensures n r 0 net)

@@ -10,7 +10,6 @@ use Rattle.kinds.proofs.Coded.{listed-few}
 use Rattle.conditions.specs.Answer.{verdict_of}
 use Rattle.witness.specs.Shows.{witness_of, Written}
 use Rattle.witness.specs.declared.pulse.Witness.{Witness}
-use borrow.Author.Rules.{rules}
 use Rattle.witness.proofs.run.show.Goals as goal
 use Rattle.witness.proofs.run.show.Goals.{After-witness_for}
 

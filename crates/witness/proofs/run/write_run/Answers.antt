@@ -4,7 +4,6 @@ use Rattle.writing.proofs.Writing.{wrote_long}
 use Rattle.kinds.specs.Codes.{kind_is}
 use Rattle.witness.specs.Shows.{run_in}
 use Rattle.witness.proofs.Phases.{numbers-length, phase_lengths, run_written}
-use borrow.Author.Rules.{rules}
 use Rattle.witness.proofs.run.write_run.Goals as goal
 
 pub write_phase-first-requires : goal.write_phase-first-requires

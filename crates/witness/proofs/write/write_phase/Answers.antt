@@ -1,14 +1,12 @@
-use mathlib.Core.Path.{◌≡◌, sym}
-use Prim.Native.Nat.{◌-◌, ◌*◌, ◌/◌, ◌≤◌}
+use mathlib.Core.Path.{sym}
 use native.Mathlib.Nat.{zero-mul}
 use native.Mathlib.Omega.{arith}
-use lib.ListN.{length}
 use Rattle.hazard.specs.Verdict.{products}
 use Rattle.hazard.proofs.Verdict.{products-length}
 use Rattle.writing.proofs.Writing.{wrote_long}
 use Rattle.kinds.specs.Codes.{kind_is}
 use Rattle.network_bytes.proofs.Bytes.{place-room, place_next}
-use Rattle.witness.proofs.Phases.{ProductsLeft, products-start, product-room, product-turn, products_wrote, part_is, part_few}
+use Rattle.witness.proofs.Phases.{products-start, product-room, product-turn, products_wrote, part_is, part_few}
 use borrow.Author.Rules.{rules}
 use Rattle.witness.proofs.write.write_phase.Goals as goal
 

@@ -1,15 +1,9 @@
-use mathlib.Core.Path.{◌≡◌, sym}
+use mathlib.Core.Path.{◌≡◌}
 use Prim.Native.Nat.{◌-◌, ◌*◌, ◌/◌, ◌≤◌}
-use native.Mathlib.Nat.{zero-mul}
-use native.Mathlib.Omega.{arith}
 use lib.ListN.{length}
 use Rattle.hazard.specs.Verdict.{products}
-use Rattle.hazard.proofs.Verdict.{products-length}
-use Rattle.writing.proofs.Writing.{wrote_long}
 use Rattle.kinds.specs.Codes.{kind_is}
-use Rattle.network_bytes.proofs.Bytes.{place-room, place_next}
-use Rattle.witness.proofs.Phases.{ProductsLeft, products-start, product-room, product-turn, products_wrote, part_is, part_few}
-use borrow.Author.Rules.{rules}
+use Rattle.witness.proofs.Phases.{ProductsLeft}
 use Rattle.witness.proofs.write.write_phase.Given as goal
 
 abbrev pub invariant-loop-m : goal.invariant-loop-m

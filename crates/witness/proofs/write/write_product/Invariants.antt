@@ -1,11 +1,7 @@
 use Prim.Native.Nat.{◌-◌, ◌≤◌}
-use native.Mathlib.Omega.{arith}
 use lib.ListN.{length}
-use Rattle.writing.proofs.Writing.{wrote_long}
-use Rattle.cube.proofs.Scan.{get_d_any}
 use Rattle.kinds.specs.Codes.{kind_is}
-use Rattle.witness.proofs.Phases.{InputsLeft, inputs-start, input-room, input-turn, inputs_wrote}
-use borrow.Author.Rules.{rules}
+use Rattle.witness.proofs.Phases.{InputsLeft}
 use Rattle.witness.proofs.write.write_product.Given as goal
 
 abbrev pub invariant-loop-i : goal.invariant-loop-i

@@ -1,7 +1,6 @@
 use native.Mathlib.Omega.{arith}
 use lib.ListN.{length-set}
 use Rattle.witness.proofs.Phases.{wire-room, wire_here, wire-none}
-use borrow.Author.Rules.{rules}
 use Rattle.witness.proofs.write.write_wire.Goals as goal
 
 pub bounds-wires-at : goal.bounds-wires-at
