@@ -1,18 +1,19 @@
 // Every example: the text that one argument names is answered, and the output is compared with the file that the next one names.
 #![tactic(auto)]
 
-ghost use Rattle.std.specs.Prelude.{◌≤◌, length, IfOk};
+ghost use Rattle.std.specs.Prelude.{IfOk};
+ghost use Rattle.io.specs.Counts.{IsPrefixLen};
 
 use answer_text::reply::MOST_OUTPUT;
 use quiet_text::answer::reply;
-use std::env::Env;
+use std::env::{Env, FillError};
 use std::fs::{File, Files};
 use std::io::{Read, Write};
 use std::{io, str};
 
 // A file's first bytes, as many as the buffer has room for. Each turn but the last brings a byte at least.
 fn read_full<F: Read>(file: &mut F, buf: &mut [u8]) -> io::Result<usize>
-    ensures { IfOk result (λ k. k ≤ length buf.new) }
+    ensures { IfOk result (λ k. IsPrefixLen k buf.new) }
 {
     let mut done = 0;
     for _ in 0..buf.len() {
@@ -27,7 +28,7 @@ fn read_full<F: Read>(file: &mut F, buf: &mut [u8]) -> io::Result<usize>
 
 // The file that a name stands for. One that is not there would read as an empty one, so it is told.
 fn named_into<R: Files + Print>(rt: &R, name: &str, buf: &mut [u8]) -> io::Result<usize>
-    ensures { IfOk result (λ k. k ≤ length buf.new) }
+    ensures { IfOk result (λ k. IsPrefixLen k buf.new) }
 {
     print!(rt; "{name} ")?;
     let Ok(mut file) = File::open(rt, name) else {
@@ -39,7 +40,7 @@ fn named_into<R: Files + Print>(rt: &R, name: &str, buf: &mut [u8]) -> io::Resul
 
 // The file that argument i names; its name is printed.
 fn file_into<R: Env + Files + Print>(rt: &R, i: usize, buf: &mut [u8]) -> io::Result<usize>
-    ensures { IfOk result (λ k. k ≤ length buf.new) }
+    ensures { IfOk result (λ k. IsPrefixLen k buf.new) }
 {
     let mut name = [0u8; 4096];
     let n = rt.arg(i, &mut name).unwrap_or(0);
@@ -66,10 +67,15 @@ fn example<R: Env + Files + Print>(rt: &R, i: usize, j: usize) -> io::Result<()>
     judge(rt, &out[0..count], &expected[..e])
 }
 
+// Argument i is there, though it may be too long for a name.
+fn is_given<R: Env>(rt: &R, i: usize) -> bool {
+    !matches!(rt.arg(i, &mut [0u8; 4096]), Err(FillError::NotPresent))
+}
+
 // Room for 200 examples; an argument that is not there is no example.
 fn main(rt: HostRuntime) -> io::Result<()> {
     for i in 0..200 {
-        if rt.arg(2 * i + 1, &mut [0u8; 4096]).is_ok() {
+        if is_given(&rt, 2 * i + 1) {
             example(&rt, 2 * i + 1, 2 * i + 2)?;
         }
     }

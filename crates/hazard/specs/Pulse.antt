@@ -1,4 +1,4 @@
--- The run that the verifier writes. A reader need not believe it: the promise says only what holds of the run.
+-- The run that is written for a verdict. A reader need not believe it: what shows the verdict says only what holds of the run.
 use Rattle.std.specs.Prelude.{Bool, true, false, cond, List, [], ◌∷◌, ◌++◌, ℕ, eqb, get_or}
 use Rattle.hazard.specs.Cube.{Cube, bit}
 use Rattle.hazard.specs.Transition.{start, end, Kind, low, rise, fall, high}

@@ -1,4 +1,4 @@
--- What shows that a verdict is right, and what the verifier promises to write.
+-- What shows that a verdict is right: a run that is not allowed, or a difference at rest.
 use Rattle.std.specs.Prelude.{◌≡◌, Bool, true, false, ◌&&◌, List, [], ◌∷◌, ◌++◌, ℕ, ◌*◌, eqb, ltb, length, drop}
 use Rattle.hazard.specs.Transition.{value, start, end, count, Kind, low, rise, fall, high}
 use Rattle.hazard.specs.Sets.{kind_at}
@@ -45,7 +45,7 @@ abbrev pub numbers : List Wire → List ℕ
 numbers [] = []
 numbers (w ∷ ws) = w.product ∷ w.input ∷ numbers ws
 
--- What the verifier promises of the wires that it writes for a verdict, of their count, and of the buffer before and after.
+-- Wires that show a verdict stand in a buffer: of them, of their count, and of the buffer before and after.
 pub record Shown (f ts : List ℕ) (net : Network) (v : Verdict) (before after : List ℕ) (size : ℕ) : Type 0 where
   -- Which run is written is free.
   pub wires : List Wire

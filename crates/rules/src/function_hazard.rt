@@ -44,11 +44,13 @@ fn lowest_hazard(n: usize, context: &[u64], k: Kind, a: u16, b: u16) -> Found
     requires { Planes n context.now × (a < 2 ^ n) × (b < 2 ^ n) }
     ensures { found_of result ≡ hazard_by n (table_in n context.now) (kind_is k) a b }
 {
+    let zeros = zeros(context);
+    let ones = ones(context);
     match k {
-        Kind::Low => lowest_in(n, ones(context), span_of(n, a, b)),
-        Kind::Rise => lowest_turning(n, ones(context), zeros(context), a, b),
-        Kind::Fall => lowest_turning(n, zeros(context), ones(context), a, b),
-        Kind::High => lowest_in(n, zeros(context), span_of(n, a, b)),
+        Kind::Low => lowest_in(n, ones, span_of(n, a, b)),
+        Kind::Rise => lowest_turning(n, ones, zeros, a, b),
+        Kind::Fall => lowest_turning(n, zeros, ones, a, b),
+        Kind::High => lowest_in(n, zeros, span_of(n, a, b)),
     }
 }
 

@@ -19,8 +19,8 @@ offset_bounds-privileged-first c = record { fits = omega (arith, trailing_le 64 
 
 pub bounds-privileged-first : goal.bounds-privileged-first
 bounds-privileged-first c =
-    rw c.privileged.ensures (rows_find-low (illegal (cube_of c.args.n c.args.c)) (privileged_in c.args.n) c.illegal_rows-rows.ensures (few_rows c.requires) (omega arith) c.if-rows-eq0.false)
+    rw c.privileged.ensures (rows_find-low (illegal (cube_of c.args.n c.args.c)) (privileged_in c.args.n) c.illegal_rows-rows.ensures (few_rows c.requires) (omega arith) (λ none. omega (arith, none)))
 
 pub returns : goal.returns
 returns c =
-    rw c.privileged.ensures (rows_find (illegal (cube_of c.args.n c.args.c)) (privileged_in c.args.n) c.illegal_rows-rows.ensures (few_rows c.requires) (omega arith) c.if-rows-eq0.false)
+    rw c.privileged.ensures (rows_find (illegal (cube_of c.args.n c.args.c)) (privileged_in c.args.n) c.illegal_rows-rows.ensures (few_rows c.requires) (omega arith) (λ none. omega (arith, none)))
