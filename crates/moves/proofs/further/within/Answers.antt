@@ -20,6 +20,6 @@ overflow_shl-result c = by_few c.args.word c.args.i c.requires.0
 pub returns : goal.returns
 returns c =
     let a = c.args in
-    let e : a.from ≡ 1 = omega (arith, c.if-from-eq0.false, c.requires.1) in
+    let e : a.from ≡ 1 = omega (arith, c.requires.1) in
     let d : Side a.i 1 c.side-sided.result = rw e at c.side-sided.ensures in
     rw (by_is a.word a.i c.requires.0, e) (within-one a.word a.i c.requires.0 d)

@@ -21,7 +21,7 @@ pub loop-s-smaller : goal.loop-s-smaller
 loop-s-smaller c = omega (arith, c.next_step-s.ensures.later)
 
 pub loop-s-preserved : goal.loop-s-preserved
-loop-s-preserved c = looked_more c.loop-s.invariant (omega (arith, c.loop-s-test.true)) c.set_points-common.ensures c.if-common-ne0.false c.next_step-s.ensures
+loop-s-preserved c = looked_more c.loop-s.invariant (omega (arith, c.loop-s-test.true)) c.set_points-common.ensures (omega arith) c.next_step-s.ensures
 
 pub returns : goal.returns
 returns c = looked_end c.loop-s.invariant (omega (arith, c.loop-s-test.false))

@@ -23,4 +23,4 @@ pub returns : goal.returns
 returns c =
     let a = c.args in
     let q = sym (ap (number_of a.text.now) c.in-Found.is) ∙ c.number_at.ensures.0 in
-    (field-other a.end a.text.now a.from c.in-Found.x c.in-Found.next q (omega arith) c.if-text-next-2.false, omega arith)
+    (field-other a.end a.text.now a.from c.in-Found.x c.in-Found.next q (omega arith) (λ e. omega (arith, e)), omega arith)

@@ -17,12 +17,12 @@ pub shape_of-table-in_default : goal.shape_of-table-in_default
 shape_of-table-in_default c = c.loop-k.invariant.long
 
 pub returns-in_default : goal.returns-in_default
-returns-in_default c = (cells_other c.loop-k.invariant (omega arith) c.if-c-eq10.false (sym (ap cell_of c.in_default.is) ∙ c.value_of.ensures), omega arith)
+returns-in_default c = (cells_other c.loop-k.invariant (omega arith) (λ e. omega (arith, e)) (sym (ap cell_of c.in_default.is) ∙ c.value_of.ensures), omega arith)
 
 pub loop-k-preserved : goal.loop-k-preserved
 loop-k-preserved c =
     let i = c.loop-k.invariant in
-    cells_on i (omega arith) (omega (arith, i.long, c.requires.1)) c.if-c-eq10.false (sym (ap cell_of c.in-Value.is) ∙ c.value_of.ensures)
+    cells_on i (omega arith) (omega (arith, i.long, c.requires.1)) (λ e. omega (arith, e)) (sym (ap cell_of c.in-Value.is) ∙ c.value_of.ensures)
 
 pub shape_of-table : goal.shape_of-table
 shape_of-table c = c.loop-k.invariant.long

@@ -39,5 +39,5 @@ returns c =
     let a = c.args in
     network_judged a.n (table_in a.n a.context.now) a.transitions.now a.network.now c.requires.0 (passed c.network_checks.ensures c.in_default.is)
     (c.judge.ensures
-    ∙ ap (λ (rs : List Required). fault_of a.n (off_in a.context.now) (privileged_of a.n a.context.now) rs (products a.n a.network.now)) (problem-few c.requires.1 (omega (arith, c.if-few-count.false)))
+    ∙ ap (λ (rs : List Required). fault_of a.n (off_in a.context.now) (privileged_of a.n a.context.now) rs (products a.n a.network.now)) (problem-few c.requires.1 (omega arith))
     ∙ problem-fault c.requires.1 (products a.n a.network.now))
