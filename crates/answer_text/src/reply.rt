@@ -20,12 +20,13 @@ pub fn put_refusal(r: Refusal, out: &mut [u8]) -> usize
     requires { 38 ≤ length out.old }
     ensures { Wrote out.old 0 (refusal_text (refusal_of r)) out.new result }
 {
+    let fields = r.fields();
     let mut at = put_bytes(b"refused", out, 0);
-    at = put_field(r.number, out, at);
-    at = put_field(r.transition, out, at);
-    at = put_field(r.point, out, at);
-    at = put_field(r.steps, out, at);
-    at = put_field(r.lowest, out, at);
+    at = put_field(u16::from(fields.number), out, at);
+    at = put_field(fields.transition, out, at);
+    at = put_field(fields.point, out, at);
+    at = put_field(fields.steps, out, at);
+    at = put_field(fields.lowest, out, at);
     put_bytes(b"\n", out, at)
 }
 

@@ -2,14 +2,14 @@
 use mathlib.Core.Path.{◌≡◌, refl, sym, ap, ap₂, ◌∙◌}
 use mathlib.Core.Logic.{◌≢◌}
 use mathlib.Core.Bool.{◌&&◌}
-use mathlib.Core.List.{List}
-use Prim.Native.Nat.{ℕ, zero, suc, ◌+◌, ◌-◌, ◌*◌, ◌/◌, ◌%◌, ◌≤◌, ◌<◌}
+use mathlib.Core.List.{List, ◌++◌}
+use Prim.Native.Nat.{ℕ, zero, suc, ◌+◌, ◌*◌, ◌/◌, ◌%◌, ◌≤◌, ◌<◌, min}
 use native.Mathlib.Nat.{le_refl}
-use native.Mathlib.Decide.{ℕ_discrete, dec_lt}
+use native.Mathlib.Decide.{ℕ_discrete}
 use native.Mathlib.Omega.{arith}
 use lib.Dec.{eqb}
-use lib.ListN.{length, get_or, take, drop, set, length-set, length-take, length-drop}
-use lib.Seq.{get_or-set_same, get_or-set_other, get_or-take, get_or-drop}
+use lib.ListN.{length, get_or, take, drop, set, length-set, length-take, length-drop, drop_of_length-le}
+use lib.Seq.{get_or-set_same, get_or-set_other, get_or-take, get_or-drop, take_at, drop_at, take_all}
 use Rattle.hazard.specs.Cube.{bit}
 use Rattle.cube.specs.Mask.{digit_at}
 use Rattle.cube.specs.declared.mask.Cube.{Cube}
@@ -19,7 +19,7 @@ use Rattle.columns.specs.declared.relation.Relation.{Relation}
 use Rattle.columns.specs.declared.relation.Allowed.{Allowed}
 use Rattle.columns.proofs.Relating.{upto, relates_upto, digit_lt}
 use Rattle.blocks.proofs.Places.{run_fits, place_same}
-use Rattle.blocks.specs.Blocks.{stride, run_of, word_at, allowed, allowed_to, Blocks, BlockEnd, BlockFilled}
+use Rattle.blocks.specs.Blocks.{stride, run_of, word_at, allowed, allowed_to, Blocks, BlockFilled}
 
 pub block_start : (rel : Relation) (rows : List ℕ) (b : ℕ) (columns : List ℕ) → BlockFilled rel 0 rows b columns columns
 block_start rel rows b columns = record { long = refl; is = λ i d k h. absurd (omega arith); others = λ i d a h ne. refl }
@@ -108,6 +108,19 @@ module _ {rel : Relation} {rows : List ℕ} {b i : ℕ} {before columns : List �
           ∙ sym (at_stride columns before s.long x d b))
           ∙ s.is x d k p l h
 
+-- A block of the rows that are left, and those after it.
+pub block_is : (rest block others : List ℕ) → rest ≡ block ++ others → length block ≡ min 64 (length rest) → (block ≡ take 64 rest) × (others ≡ drop 64 rest)
+block_is rest block others e h =
+    let t : take (length block) rest ≡ block = ap (take (length block)) e ∙ take_at block others (length block) refl in
+    let d : drop (length block) rest ≡ others = ap (drop (length block)) e ∙ drop_at block others (length block) refl in
+    elim (ℕ_discrete (length block) 64) [
+      | yes q ↦ (sym (rw q at t), sym (rw q at d))
+      | no q ↦ (
+        sym t ∙ take_all (length block) rest (omega (arith, h, q)) ∙ sym (take_all 64 rest (omega (arith, h, q))),
+        sym d ∙ drop_of_length-le rest {i = length block} (omega (arith, h, q)) ∙ sym (drop_of_length-le rest {i = 64} (omega (arith, h, q))),
+      )
+    ]
+
 -- The rows of the blocks below b have their words.
 pub record Filled (rel : Relation) (n : ℕ) (rows columns : List ℕ) (b : ℕ) : Type 0 where
   pub is : (i d k : ℕ) → i < n → d < 3 → k < length rows → k < 64 * b → allowed columns k i d ≡ allows rel (get_or rows k 0) i d
@@ -116,26 +129,24 @@ pub filled-start : (rel : Relation) (n : ℕ) (rows columns : List ℕ) → Fill
 filled-start rel n rows columns = record { is = λ i d k h l x y. absurd (omega arith) }
 
 module _ {rel : Relation} {n : ℕ} {rows columns : List ℕ} {b : ℕ} (s : Filled rel n rows columns b) where
-  pub filled_step : 64 * b < length rows → b < stride columns → {to : ℕ} → BlockEnd (64 * b) (length rows) to → (next : List ℕ)
-      → BlockFilled rel n (take (to - 64 * b) (drop (64 * b) rows)) b columns next → Filled rel n rows next (b + 1)
-  filled_step l m {to} e next f =
+  pub filled_step : 64 * b < length rows → b < stride columns → (block next : List ℕ) → block ≡ take 64 (drop (64 * b) rows)
+      → BlockFilled rel n block b columns next → Filled rel n rows next (b + 1)
+  filled_step l m block next e f =
       record {
         is = λ i d k i<n d<3 k< below. elim (ℕ_discrete (k / 64) b) [ yes q ↦ here i d k i<n d<3 k< q | no q ↦ earlier i d k i<n d<3 k< (omega (arith, q, below)) ];
       }
     where
-      size : length (take (to - 64 * b) (drop (64 * b) rows)) ≡ to - 64 * b
-      size = omega (arith, length-take (to - 64 * b) (drop (64 * b) rows), length-drop (64 * b) rows, e.high)
-
-      row : (k : ℕ) → k < length rows → k / 64 ≡ b → (k % 64 < to - 64 * b) × (get_or (take (to - 64 * b) (drop (64 * b) rows)) (k % 64) 0 ≡ get_or rows k 0)
+      row : (k : ℕ) → k < length rows → k / 64 ≡ b → (k % 64 < length block) × (get_or block (k % 64) 0 ≡ get_or rows k 0)
       row k h q =
-          let i : k % 64 < to - 64 * b = elim (dec_lt to (length rows)) [ yes z ↦ omega (arith, e.full z, q) | no z ↦ omega (arith, z, q, e.high) ] in
-          let p : 64 * b + k % 64 ≡ k = omega (arith, q) in
-          (i, get_or-take (to - 64 * b) (drop (64 * b) rows) (k % 64) 0 i ∙ get_or-drop (64 * b) rows (k % 64) 0 ∙ ap (λ (y : ℕ). get_or rows y 0) p)
+          let p : 64 * b + k % 64 ≡ k = omega (arith, q) in (
+            rw e (omega (arith, length-take 64 (drop (64 * b) rows), length-drop (64 * b) rows, q)),
+            rw e (get_or-take 64 (drop (64 * b) rows) (k % 64) 0 (omega arith) ∙ get_or-drop (64 * b) rows (k % 64) 0 ∙ ap (λ (y : ℕ). get_or rows y 0) p),
+          )
 
       here : (i d k : ℕ) → i < n → d < 3 → k < length rows → k / 64 ≡ b → allowed next k i d ≡ allows rel (get_or rows k 0) i d
       here i d k x y h q =
           let (j, g) = row k h q in
-          ap (λ (a : ℕ). eqb (bit (word_at next i d a) (k % 64)) 1) q ∙ f.is i d (k % 64) x y (omega (arith, size, j)) ∙ ap (λ (w : ℕ). allows rel w i d) g
+          ap (λ (a : ℕ). eqb (bit (word_at next i d a) (k % 64)) 1) q ∙ f.is i d (k % 64) x y j ∙ ap (λ (w : ℕ). allows rel w i d) g
 
       earlier : (i d k : ℕ) → i < n → d < 3 → k < length rows → k < 64 * b → allowed next k i d ≡ allows rel (get_or rows k 0) i d
       earlier i d k x y h z = ap (λ (w : ℕ). eqb (bit w (k % 64)) 1) (f.others i d (k / 64) (omega (arith, m)) (λ q. omega (arith, q, z))) ∙ s.is i d k x y h z

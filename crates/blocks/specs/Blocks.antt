@@ -1,5 +1,5 @@
 -- Rows in blocks of 64: for each input and digit a run of words, word b of it for rows 64 b to 64 b + 63.
-use Rattle.std.specs.Prelude.{◌≡◌, ◌≢◌, Bool, true, ◌&&◌, List, ℕ, zero, suc, ◌+◌, ◌*◌, ◌/◌, ◌%◌, ◌≤◌, ◌<◌, eqb, length, get_or}
+use Rattle.std.specs.Prelude.{◌≡◌, ◌≢◌, Bool, true, ◌&&◌, List, ℕ, zero, suc, ◌+◌, ◌*◌, ◌/◌, ◌%◌, ◌<◌, eqb, length, get_or}
 use Rattle.hazard.specs.Cube as digits
 use Rattle.hazard.specs.Cube.{bit}
 use Rattle.cube.specs.Mask.{digit_at, cube_of}
@@ -31,13 +31,6 @@ allowed_to columns k c (suc i) = allowed_to columns k c i && allowed columns k i
 -- The columns were made from the rows: a row has its bits for all digits of a cube exactly where it is related to the cube.
 pub record Blocks (related : ℕ → digits.Cube → Bool) (n : ℕ) (rows columns : List ℕ) : Type 0 where
   pub is : (k : ℕ) → k < length rows → (c : Cube) → allowed_to columns k c n ≡ related (get_or rows k 0) (cube_of n c)
-
--- A block has 64 rows, or those that are left.
-pub record BlockEnd (from count r : ℕ) : Type 0 where
-  pub low : from ≤ r
-  pub high : r ≤ count
-  pub few : r ≤ from + 64
-  pub full : r < count → r ≡ from + 64
 
 -- The words of block b are those of its rows; the words of other blocks are as they were.
 pub record BlockFilled (rel : Relation) (n : ℕ) (rows : List ℕ) (b : ℕ) (before after : List ℕ) : Type 0 where

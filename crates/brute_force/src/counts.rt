@@ -1,83 +1,52 @@
-// What was covered, and each kind of disagreement: one count each, in the order of the report.
-pub const MINIMISED: usize = 0;
-
-pub const LARGE: usize = 1;
-
-pub const UNVISITED: usize = 2;
-
-pub const NONE: usize = 3;
-
-pub const REFUSED_6: usize = 4;
-
-pub const REFUSED_7: usize = 5;
-
-pub const DROPPED: usize = 6;
-
-pub const STEPS_1: usize = 7;
-
-pub const STEPS_2: usize = 8;
-
-pub const STEPS_3: usize = 9;
-
-pub const SETS: usize = 10;
-
-pub const REFUSED: usize = 11;
-
-pub const PASSED: usize = 12;
-
-pub const HOLDS_ZERO: usize = 13;
-
-pub const INTERSECTS: usize = 14;
-
-pub const UNCOVERED: usize = 15;
-
-pub const SINGLE_POINT: usize = 16;
-
-pub const TOO_WIDE: usize = 17;
-
-// Disagreements: all, and each kind.
-pub const DISAGREEMENTS: usize = 18;
-
-pub const ACCEPTANCE: usize = 19;
-
-pub const FIELDS_OF_NONE: usize = 20;
-
-pub const HAZARD_FREE_SET: usize = 21;
-
-pub const BUFFER: usize = 22;
-
-pub const HAZARD: usize = 23;
-
-pub const DROPPABLE: usize = 24;
-
-pub const INSIDE: usize = 25;
-
-pub const PAST_THE_END: usize = 26;
-
-pub const NOT_PASSED: usize = 27;
-
-pub const OUT_OF_SEQUENCE: usize = 28;
-
-pub const VERDICT: usize = 29;
-
-pub const FIELDS_OF_FAULT: usize = 30;
-
-pub const LEN: usize = 31;
-
-// One more. A count stops far above any that comes up.
-pub(crate) fn add(counts: &mut [u64; LEN], which: usize) {
-    if which < LEN {
-        let c = counts[which];
-        if c < 1000000000000 {
-            counts[which] = c + 1;
-        }
-    }
+// What was covered, and each kind of disagreement.
+#[derive(Clone, Copy, Default)]
+pub struct Counts {
+    pub minimised: u64,
+    pub large: u64,
+    pub unvisited: u64,
+    pub none: u64,
+    pub refused_6: u64,
+    pub refused_7: u64,
+    pub dropped: u64,
+    pub steps_1: u64,
+    pub steps_2: u64,
+    pub steps_3: u64,
+    pub sets: u64,
+    pub refused: u64,
+    pub passed: u64,
+    pub holds_zero: u64,
+    pub intersects: u64,
+    pub uncovered: u64,
+    pub single_point: u64,
+    pub too_wide: u64,
+    pub disagreements: Disagreements,
 }
 
-// A disagreement of this kind, unless the two sides agree.
-pub(crate) fn expect(counts: &mut [u64; LEN], which: usize, agree: bool) {
+// How often the two sides do not agree, by what they do not agree on.
+#[derive(Clone, Copy, Default)]
+pub struct Disagreements {
+    pub acceptance: u64,
+    pub fields_of_none: u64,
+    pub hazard_free_set: u64,
+    pub buffer: u64,
+    pub hazard: u64,
+    pub droppable: u64,
+    pub inside: u64,
+    pub past_the_end: u64,
+    pub not_passed: u64,
+    pub out_of_sequence: u64,
+    pub verdict: u64,
+    pub fields_of_fault: u64,
+}
+
+// One more. No count comes near the largest number.
+pub(crate) fn add(count: &mut u64) {
+    *count = count.saturating_add(1);
+}
+
+// A disagreement, unless the two sides agree.
+pub(crate) fn expect(count: &mut u64, agree: bool) {
     if !agree {
-        add(counts, DISAGREEMENTS);
-        add(counts, which);
+        add(count);
     }
 }

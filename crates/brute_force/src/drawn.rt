@@ -38,35 +38,25 @@ fn drawn_union(n: u64, seed: u64) -> u64 {
 fn drawn_table(n: u64, seed: u64) -> Instance {
     let p = table_with(n, seed / 8);
     let whole = all_points(n);
-    let way = seed % 8;
-    if way < 2 {
-        return p;
-    }
-    if way == 2 {
-        return of_table(n, p.zeros, whole ^ p.zeros);
-    }
-    if way == 3 {
-        return of_table(n, whole ^ p.ones, p.ones);
-    }
     let set = drawn_union(n, seed) & whole;
-    if way < 6 {
-        return of_table(n, whole ^ set, set);
-    }
     let known = whole ^ (seed / 65536 & p.zeros);
-    of_table(n, (whole ^ set) & known, set & known)
+    match seed % 8 {
+        0 | 1 => p,
+        2 => of_table(n, p.zeros, whole ^ p.zeros),
+        3 => of_table(n, whole ^ p.ones, p.ones),
+        4 | 5 => of_table(n, whole ^ set, set),
+        _ => of_table(n, (whole ^ set) & known, set & known),
+    }
 }
 
 // Whether the ends are dynamic and at least so many moves apart.
 fn is_far(p: Instance, a: u64, b: u64, least: u32) -> bool {
-    if u64::count_ones(a ^ b) < least {
-        return false;
-    }
-    has(p.ones, a) != has(p.ones, b)
+    least <= (a ^ b).count_ones() && has(p.ones, a) != has(p.ones, b)
 }
 
 // Whether a transition alone is accepted.
 fn fits(p: Instance, a: u64, b: u64) -> bool {
-    first_refused(with_transition(of_table(p.n, p.zeros, p.ones), a, b)).number == 0
+    first_refused(with_transition(of_table(p.n, p.zeros, p.ones), a, b)).is_none()
 }
 
 // A seeded transition more: the first of some that is accepted alone, at first only one that is far; at times any.
@@ -77,13 +67,8 @@ fn with_drawn(p: Instance, seed: u64, least: u32) -> Instance {
         s = next(s);
         let a = point_from(p.n, s / 16);
         let b = point_from(p.n, s / 256);
-        if any {
+        if any || (16 <= i || is_far(p, a, b, least)) && fits(p, a, b) {
             return with_transition(p, a, b);
-        }
-        if 16 <= i || is_far(p, a, b, least) {
-            if fits(p, a, b) {
-                return with_transition(p, a, b);
-            }
         }
     }
     with_transition(p, point_from(p.n, s / 16), point_from(p.n, s / 256))
@@ -136,26 +121,19 @@ pub(crate) fn drawn_network(p: Instance, seed: u64, count: u64, implicants: bool
 pub(crate) fn changed(p: Instance, net: Network, seed: u64) -> Network {
     let count = net.count;
     let n = p.n;
-    if count == 0 {
-        return net;
-    }
-    if n == 0 {
+    if count == 0 || n == 0 {
         return net;
     }
     let place = spread(bit(seed / 16 % n)) & (15 << (4 * (seed / 256 % count % 16)));
     if seed % 2 == 0 {
         Network {
             care: net.care ^ place,
-            value: net.value,
-            present: net.present,
-            count,
+            ..net
         }
     } else {
         Network {
-            care: net.care,
             value: net.value ^ place,
-            present: net.present,
-            count,
+            ..net
         }
     }
 }

@@ -11,7 +11,7 @@ pub struct Instance {
     pub ones: u64,
     // the points of all [A,B]
     pub visited: u64,
-    // at most eight transitions: A in the low nibble of a byte, B in the high one
+    // at most eight transitions: A in the low nibble of a byte, B in the high one. One word, as the sets of points are: millions of calls pass it.
     pub list: u64,
     pub count: u64,
 }
@@ -20,35 +20,29 @@ pub struct Instance {
 pub(crate) fn size_of(n: u64) -> u64
     ensures { result ≤ 16 }
 {
-    if n == 2 {
-        return 4;
+    match n {
+        2 => 4,
+        3 => 8,
+        _ => 16,
     }
-    if n == 3 {
-        return 8;
-    }
-    16
 }
 
 // All points of n inputs, as a set.
 pub(crate) fn all_points(n: u64) -> u64 {
-    if n == 2 {
-        return 15;
+    match n {
+        2 => 15,
+        3 => 255,
+        _ => 65535,
     }
-    if n == 3 {
-        return 255;
-    }
-    65535
 }
 
 // A point of n inputs, from any number.
 pub(crate) fn point_from(n: u64, x: u64) -> u64 {
-    if n == 2 {
-        return x % 4;
+    match n {
+        2 => x % 4,
+        3 => x % 8,
+        _ => x % 16,
     }
-    if n == 3 {
-        return x % 8;
-    }
-    x % 16
 }
 
 // The number at a place of the list: A at even places, B at odd ones.
@@ -62,6 +56,12 @@ pub(crate) fn start(p: Instance, k: u64) -> u64 {
 
 pub(crate) fn end(p: Instance, k: u64) -> u64 {
     if k < 8 { nibble(p.list, k * 2 + 1) } else { 0 }
+}
+
+// The point that a product has to have if it shares one with [A,B].
+pub(crate) fn start_point(p: Instance, k: u64) -> u64 {
+    let a = start(p, k);
+    if has(p.ones, a) { a } else { end(p, k) }
 }
 
 // The points of [A,B].
@@ -96,12 +96,10 @@ pub(crate) fn with_transition(p: Instance, a: u64, b: u64) -> Instance {
         return p;
     }
     Instance {
-        n: p.n,
-        zeros: p.zeros,
-        ones: p.ones,
         visited: p.visited | between(a, b),
         list: p.list | (a << (k * 8)) | (b << (k * 8 + 4)),
         count: k + 1,
+        ..p
     }
 }
 
@@ -110,10 +108,8 @@ pub(crate) fn turns(p: Instance, a: u64, b: u64, x: u64) -> bool {
     let last = has(p.ones, b);
     for i in 0..4u64 {
         let further = x ^ bit(i);
-        if has((a ^ b) & (15 ^ x ^ a), i) {
-            if has(p.ones, further) != last {
-                return true;
-            }
+        if has((a ^ b) & (15 ^ x ^ a), i) && has(p.ones, further) != last {
+            return true;
         }
     }
     false
@@ -125,81 +121,31 @@ fn breaks(p: Instance, a: u64, b: u64, x: u64) -> bool {
     let last = has(p.ones, b);
     let here = has(p.ones, x);
     if first == last {
-        return here != first;
-    }
-    if here != last {
-        return false;
-    }
-    turns(p, a, b, x)
-}
-
-fn fails(number: u64, p: Instance, k: u64, x: u64) -> bool {
-    let a = start(p, k);
-    let b = end(p, k);
-    if !has(between(a, b), x) {
-        return false;
-    }
-    if number == 6 {
-        return !has(p.zeros | p.ones, x);
-    }
-    breaks(p, a, b, x)
-}
-
-// A refusal's number, transition and point, or a verdict's number and its two fields; the number 0 where there is neither.
-#[derive(Clone, Copy)]
-pub struct Named {
-    pub number: u64,
-    pub first: u64,
-    pub second: u64,
-}
-
-pub(crate) fn nothing() -> Named {
-    Named {
-        number: 0,
-        first: 0,
-        second: 0,
+        here != first
+    } else {
+        here == last && turns(p, a, b, x)
     }
 }
 
-pub(crate) fn same(a: Named, b: Named) -> bool {
-    if a.number != b.number {
-        return false;
-    }
-    if a.first != b.first {
-        return false;
-    }
-    a.second == b.second
-}
+// A refusal's number, transition, point, steps, lowest zero and product.
+pub type Fields = [u64; 6];
 
-// The lowest point of transition k that the check with this number refuses, or 16.
-fn lowest(number: u64, p: Instance, k: u64) -> u64 {
-    for x in 0..16u64 {
-        if fails(number, p, k, x) {
-            return x;
+// The first refusal with this number, by transition and then point: what fails at a point of [A,B], told A, B and the point.
+fn refused_by<F: Fn(u64, u64, u64) -> bool>(number: u64, p: Instance, fails: F) -> Option<Fields>
+    requires { F.IsAlwaysCallable fails }
+{
+    for i in 0..p.count.min(8) * 16 {
+        let (k, x) = (i / 16, i % 16);
+        let (a, b) = (start(p, k), end(p, k));
+        if has(between(a, b), x) && fails(a, b, x) {
+            return Some([number, k, x, 0, 0, 0]);
         }
     }
-    16
-}
-
-fn refused_by(number: u64, p: Instance) -> Named {
-    for k in 0..p.count {
-        let x = lowest(number, p, k);
-        if x < 16 {
-            return Named {
-                number,
-                first: k,
-                second: x,
-            };
-        }
-    }
-    nothing()
+    None
 }
 
 // Check 6 for all transitions, then check 7.
-pub(crate) fn first_refused(p: Instance) -> Named {
-    let six = refused_by(6, p);
-    if six.number != 0 {
-        return six;
-    }
-    refused_by(7, p)
+pub(crate) fn first_refused(p: Instance) -> Option<Fields> {
+    let undefined = refused_by(6, p, |_, _, x| !has(p.zeros | p.ones, x));
+    undefined.or_else(|| refused_by(7, p, |a, b, x| breaks(p, a, b, x)))
 }

@@ -18,9 +18,8 @@ mod verdict;
 mod verifying;
 mod wires;
 
-use crate::counts::LEN;
-use crate::report::print;
-use crate::samples::{ALL, ALONE};
+use crate::samples::{ALL, ALONE, all_of_two, sample};
+use std::io;
 
 // How many tables of three inputs there are, and how many seeded instances of three and of four.
 const TABLES: u64 = 6561;
@@ -29,31 +28,16 @@ const THREE: u64 = 100000;
 
 const FOUR: u64 = 150000;
 
-fn all_of_two(name: &[u8], from: u64, to: u64) {
-    let mut counts = [0u64; LEN];
-    samples::all_of_two(from, to, &mut counts);
-    print(name, &counts);
-}
-
-// The number of inputs is the seed.
-fn sampled(name: &[u8], n: u64, most: u64, rounds: u64) {
-    let mut counts = [0u64; LEN];
-    samples::sample(n, most, rounds, n, &mut counts);
-    print(name, &counts);
-}
-
-fn main() {
-    all_of_two(
-        b"2 inputs: all tables, all transitions, all sets of products\n",
-        0,
-        ALONE,
-    );
-    all_of_two(
-        b"2 inputs: all tables, no transition, all sets of products\n",
-        ALONE,
-        ALL,
-    );
-    sampled(b"3 inputs: all tables, no transition\n", 3, 0, TABLES);
-    sampled(b"3 inputs: seeded, up to 5 transitions\n", 3, 5, THREE);
-    sampled(b"4 inputs: seeded, up to 8 transitions\n", 4, 8, FOUR);
+// The number of inputs is the seed of a sample.
+fn main(rt: HostRuntime) -> io::Result<()> {
+    let counts = all_of_two(0..ALONE);
+    print!(rt; "2 inputs: all tables, all transitions, all sets of products\n{counts}")?;
+    let counts = all_of_two(ALONE..ALL);
+    print!(rt; "2 inputs: all tables, no transition, all sets of products\n{counts}")?;
+    let counts = sample(3, 0, TABLES, 3);
+    print!(rt; "3 inputs: all tables, no transition\n{counts}")?;
+    let counts = sample(3, 5, THREE, 3);
+    print!(rt; "3 inputs: seeded, up to 5 transitions\n{counts}")?;
+    let counts = sample(4, 8, FOUR, 4);
+    print!(rt; "4 inputs: seeded, up to 8 transitions\n{counts}")
 }

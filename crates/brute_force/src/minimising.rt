@@ -1,21 +1,15 @@
 // The minimiser against the counterpart.
 use crate::bytes::network_from;
 use crate::calls::answer_to;
-use crate::counts::{
-    ACCEPTANCE, BUFFER, DROPPABLE, DROPPED, FIELDS_OF_NONE, HAZARD, HAZARD_FREE_SET, INSIDE, LARGE,
-    LEN, MINIMISED, NONE, NOT_PASSED, OUT_OF_SEQUENCE, PAST_THE_END, REFUSED_6, REFUSED_7, STEPS_1,
-    STEPS_2, STEPS_3, UNVISITED, add, expect,
-};
+use crate::counts::{Counts, add, expect};
 use crate::faults::inside_legal;
-use crate::instance::{Instance, first_refused, unvisited};
+use crate::instance::{Fields, Instance, first_refused, unvisited};
 use crate::network::{Network, product_at, without};
-use crate::required::blocks_at;
+use crate::required::first_blocked;
 use crate::trying::some_hazard_free;
-use crate::verifying::{expect_hazard_free, passes, refuses, same_refusal};
-use refusal::refusal::Refusal;
-use selection::minimised::Minimised;
+use crate::verifying::{expect_hazard_free, passes, refuses};
 use testing::marks::{MARK, is_marked};
-use testing::products::{bytes_of, in_sequence};
+use testing::products::{in_sequence, network_and_rest};
 
 // Which way an instance went.
 #[derive(Clone, Copy)]
@@ -26,103 +20,101 @@ pub enum Answer {
 }
 
 // Without any one product the network is not hazard-free, and none lies inside a larger legal one.
-fn drops(p: Instance, net: Network, counts: &mut [u64; LEN]) {
+fn drops(p: Instance, net: Network, counts: &mut Counts) {
     for j in 0..net.count {
-        expect(counts, INSIDE, !inside_legal(p, product_at(net, j)));
-        add(counts, DROPPED);
-        expect_hazard_free(p, without(net, j), false, DROPPABLE, counts);
+        expect(
+            &mut counts.disagreements.inside,
+            !inside_legal(p, product_at(net, j)),
+        );
+        add(&mut counts.dropped);
+        let (wrong, wide) = (&mut counts.disagreements.droppable, &mut counts.too_wide);
+        expect_hazard_free(p, without(net, j), false, wrong, wide);
     }
 }
 
 // A hazard-free network, in which each product is needed and as large as can be.
-fn minimal(p: Instance, net: Network, count: usize, counts: &mut [u64; LEN]) {
-    add(counts, MINIMISED);
+fn minimal(p: Instance, net: Network, count: usize, counts: &mut Counts) {
+    add(&mut counts.minimised);
     if 3 <= count {
-        add(counts, LARGE);
+        add(&mut counts.large);
     }
     if unvisited(p) != 0 {
-        add(counts, UNVISITED);
+        add(&mut counts.unvisited);
     }
-    expect(counts, ACCEPTANCE, first_refused(p).number == 0);
-    expect(counts, HAZARD, net.count == count as u64);
-    expect_hazard_free(p, net, true, HAZARD, counts);
+    expect(
+        &mut counts.disagreements.acceptance,
+        first_refused(p).is_none(),
+    );
+    expect(&mut counts.disagreements.hazard, net.count == count as u64);
+    expect_hazard_free(
+        p,
+        net,
+        true,
+        &mut counts.disagreements.hazard,
+        &mut counts.too_wide,
+    );
     drops(p, net, counts);
 }
 
 // What the minimiser wrote: a minimal network in sequence that the verifier passes, and no byte more.
-fn made(p: Instance, cover: &[u8], count: usize, counts: &mut [u64; LEN]) -> Answer {
+fn made(p: Instance, cover: &[u8], count: usize, counts: &mut Counts) -> Answer {
     let n = p.n as usize;
-    let net = network_from(n, cover, count);
+    let (bytes, rest) = network_and_rest(n, count, cover);
+    let net = network_from(n, bytes);
     minimal(p, net, count, counts);
-    let end = bytes_of(n, count, cover);
-    expect(counts, PAST_THE_END, is_marked(cover, end));
-    expect(counts, NOT_PASSED, passes(p, &cover[0..end]));
-    expect(counts, OUT_OF_SEQUENCE, in_sequence(n, &cover[0..end]));
+    expect(&mut counts.disagreements.past_the_end, is_marked(rest));
+    expect(&mut counts.disagreements.not_passed, passes(p, bytes));
+    expect(
+        &mut counts.disagreements.out_of_sequence,
+        in_sequence(n, bytes),
+    );
     Answer::Made(net)
 }
 
-fn count_of_steps(steps: u16) -> usize {
-    if steps == 1 {
-        return STEPS_1;
+fn add_steps(steps: u64, counts: &mut Counts) {
+    match steps {
+        1 => add(&mut counts.steps_1),
+        2 => add(&mut counts.steps_2),
+        3 => add(&mut counts.steps_3),
+        _ => {}
     }
-    if steps == 2 {
-        return STEPS_2;
-    }
-    if steps == 3 {
-        return STEPS_3;
-    }
-    LEN
-}
-
-// Whether a refusal 10 names the first cube that blocks.
-fn names_blocked(p: Instance, r: Refusal) -> bool {
-    if r.product != 0 {
-        return false;
-    }
-    blocks_at(
-        p,
-        r.transition as u64,
-        r.point as u64,
-        r.steps as u64,
-        r.lowest as u64,
-    )
 }
 
 // Refusal 10: no set of products is hazard-free, even if nothing is asked at the 1s that no transition visits, and the fields name the
 // first cube that blocks.
-fn none(p: Instance, r: Refusal, counts: &mut [u64; LEN]) -> Answer {
-    add(counts, NONE);
-    add(counts, count_of_steps(r.steps));
-    expect(counts, ACCEPTANCE, first_refused(p).number == 0);
-    expect(counts, FIELDS_OF_NONE, names_blocked(p, r));
-    let found = some_hazard_free(p, counts);
-    expect(counts, HAZARD_FREE_SET, !found);
+fn none(p: Instance, r: Fields, counts: &mut Counts) -> Answer {
+    add(&mut counts.none);
+    add_steps(r[3], counts);
+    expect(
+        &mut counts.disagreements.acceptance,
+        first_refused(p).is_none(),
+    );
+    expect(
+        &mut counts.disagreements.fields_of_none,
+        first_blocked(p) == Some(r),
+    );
+    let found = some_hazard_free(p, &mut counts.sets);
+    expect(&mut counts.disagreements.hazard_free_set, !found);
     Answer::None
 }
 
-fn count_of_refusal(number: u16) -> usize {
-    if number == 6 {
-        return REFUSED_6;
-    }
-    if number == 7 {
-        return REFUSED_7;
-    }
-    LEN
-}
-
 // A refusal by check 6 or 7, as the counterpart has it, and by both calls.
-fn declined(p: Instance, r: Refusal, counts: &mut [u64; LEN]) -> Answer {
-    add(counts, count_of_refusal(r.number));
+fn declined(p: Instance, r: Fields, counts: &mut Counts) -> Answer {
+    match r[0] {
+        6 => add(&mut counts.refused_6),
+        7 => add(&mut counts.refused_7),
+        _ => {}
+    }
     let own = first_refused(p);
-    expect(counts, ACCEPTANCE, same_refusal(own, r));
+    expect(&mut counts.disagreements.acceptance, own == Some(r));
     refuses(p, own, counts);
     Answer::Refused
 }
 
 // A refusal, after which the buffer is as it was.
-fn refused(p: Instance, r: Refusal, cover: &[u8], counts: &mut [u64; LEN]) -> Answer {
-    expect(counts, BUFFER, is_marked(cover, 0));
-    if r.number == 10 {
+fn refused(p: Instance, r: Fields, cover: &[u8], counts: &mut Counts) -> Answer {
+    expect(&mut counts.disagreements.buffer, is_marked(cover));
+    if r[0] == 10 {
         none(p, r, counts)
     } else {
         declined(p, r, counts)
@@ -130,10 +122,10 @@ fn refused(p: Instance, r: Refusal, cover: &[u8], counts: &mut [u64; LEN]) -> An
 }
 
 // An instance through the minimiser.
-pub(crate) fn minimises(p: Instance, counts: &mut [u64; LEN]) -> Answer {
+pub(crate) fn minimises(p: Instance, counts: &mut Counts) -> Answer {
     let mut cover = [MARK; 256];
     match answer_to(p, &mut cover) {
-        Minimised::Products(count) => made(p, &cover, count, counts),
-        Minimised::Refused(r) => refused(p, r, &cover, counts),
+        Ok(count) => made(p, &cover, count, counts),
+        Err(r) => refused(p, r, &cover, counts),
     }
 }

@@ -1,4 +1,5 @@
-// Networks of at most 16 products of at most four inputs. A nibble stands for a product, input 0 in its lowest bit.
+// Networks of at most 16 products of at most four inputs. A nibble stands for a product, input 0 in its lowest bit. They are
+// words and no lists, so that all products give their output at once: millions of networks are tried.
 #[derive(Clone, Copy)]
 pub struct Product {
     // the inputs with a literal, and those with a plain one
@@ -6,7 +7,7 @@ pub struct Product {
     pub value: u64,
 }
 
-#[derive(Clone, Copy)]
+#[derive(Clone, Copy, Default)]
 pub struct Network {
     pub care: u64,
     pub value: u64,
@@ -16,12 +17,7 @@ pub struct Network {
 }
 
 pub(crate) fn empty() -> Network {
-    Network {
-        care: 0,
-        value: 0,
-        present: 0,
-        count: 0,
-    }
+    Network::default()
 }
 
 pub(crate) fn bit(i: u64) -> u64 {
@@ -87,31 +83,27 @@ pub(crate) fn without(net: Network, j: u64) -> Network {
 
 // How many products n inputs have.
 pub(crate) fn products_of(n: u64) -> u64 {
-    if n == 2 {
-        return 9;
+    match n {
+        2 => 9,
+        3 => 27,
+        _ => 81,
     }
-    if n == 3 {
-        return 27;
-    }
-    81
 }
 
 // The product with a literal on input i more: 0 inverted, 1 plain, and any other digit none.
 pub(crate) fn with_literal(p: Product, i: u64, digit: u64) -> Product {
     let b = bit(i);
-    if digit == 0 {
-        return Product {
+    match digit {
+        0 => Product {
             care: p.care | b,
-            value: p.value,
-        };
-    }
-    if digit == 1 {
-        return Product {
+            ..p
+        },
+        1 => Product {
             care: p.care | b,
             value: p.value | b,
-        };
+        },
+        _ => p,
     }
-    p
 }
 
 // The product of n inputs with the code's digits in base three as its bytes, input 0 first.

@@ -1,63 +1,70 @@
 // The counts as text.
-use crate::counts::LEN;
+use crate::counts::{Counts, Disagreements};
+use std::fmt;
 
-// The next count where the byte is `#`, else the byte; which count is next.
-fn print_byte(byte: u8, counts: &[u64; LEN], which: usize) -> usize {
-    if byte == b'#' {
-        if which < LEN {
-            io::print_decimal(1, counts[which]);
-            return which + 1;
-        }
+impl Disagreements {
+    fn total(&self) -> u64 {
+        [
+            self.acceptance,
+            self.fields_of_none,
+            self.hazard_free_set,
+            self.buffer,
+            self.hazard,
+            self.droppable,
+            self.inside,
+            self.past_the_end,
+            self.not_passed,
+            self.out_of_sequence,
+            self.verdict,
+            self.fields_of_fault,
+        ]
+        .iter()
+        .fold(0, |sum: u64, count| sum.saturating_add(*count))
     }
-    io::write_all(1, &[byte]);
-    which
 }
 
-// A text in which each `#` stands for a count, from the count `from` on; which count is next.
-fn print_line(text: &[u8], counts: &[u64; LEN], from: usize) -> usize {
-    let mut which = from;
-    let mut i = 0;
-    while i < text.len() {
-        which = print_byte(text[i], counts, which);
-        i += 1;
+impl fmt::Display for Disagreements {
+    fn fmt<W: fmt::Write>(&self, f: &mut fmt::Formatter<W>) -> fmt::Result {
+        let d = self;
+        writeln!(f, "disagreements {}", d.total())?;
+        writeln!(
+            f,
+            "  refusal {}, fields of none {}, none but a set is hazard-free {}, buffer after a refusal {}",
+            d.acceptance, d.fields_of_none, d.hazard_free_set, d.buffer
+        )?;
+        writeln!(
+            f,
+            "  network not hazard-free {}, product can be dropped {}, product inside a larger legal one {}, bytes after the last product {}, network not passed {}, product not before the next {}",
+            d.hazard, d.droppable, d.inside, d.past_the_end, d.not_passed, d.out_of_sequence
+        )?;
+        writeln!(
+            f,
+            "  verdict {}, fields of a fault {}",
+            d.verdict, d.fields_of_fault
+        )
     }
-    which
 }
 
-fn print_found(c: &[u64; LEN]) -> usize {
-    let next = print_line(
-        b"minimised #, of them with 3 or more products #, with a 1 that no transition visits #, none #, refused 6 #, refused 7 #\nproducts dropped #\n",
-        c,
-        0,
-    );
-    let next = print_line(
-        b"none after 1 step #, 2 steps #, 3 steps #; sets of products tried #\n",
-        c,
-        next,
-    );
-    print_line(
-        b"verified: refused #, passed #, product holds a zero #, illegal intersection #, uncovered #, of them single points #\nnetworks with too many wires to try #\n",
-        c,
-        next,
-    )
-}
-
-fn print_disagreements(c: &[u64; LEN], from: usize) {
-    let next = print_line(
-        b"disagreements #\n  refusal #, fields of none #, none but a set is hazard-free #, buffer after a refusal #\n",
-        c,
-        from,
-    );
-    let next = print_line(
-        b"  network not hazard-free #, product can be dropped #, product inside a larger legal one #, bytes after the last product #, network not passed #, product not before the next #\n",
-        c,
-        next,
-    );
-    print_line(b"  verdict #, fields of a fault #\n", c, next);
-}
-
-pub(crate) fn print(name: &[u8], c: &[u64; LEN]) {
-    io::write_all(1, name);
-    let next = print_found(c);
-    print_disagreements(c, next);
+impl fmt::Display for Counts {
+    fn fmt<W: fmt::Write>(&self, f: &mut fmt::Formatter<W>) -> fmt::Result {
+        let c = self;
+        writeln!(
+            f,
+            "minimised {}, of them with 3 or more products {}, with a 1 that no transition visits {}, none {}, refused 6 {}, refused 7 {}",
+            c.minimised, c.large, c.unvisited, c.none, c.refused_6, c.refused_7
+        )?;
+        writeln!(f, "products dropped {}", c.dropped)?;
+        writeln!(
+            f,
+            "none after 1 step {}, 2 steps {}, 3 steps {}; sets of products tried {}",
+            c.steps_1, c.steps_2, c.steps_3, c.sets
+        )?;
+        writeln!(
+            f,
+            "verified: refused {}, passed {}, product holds a zero {}, illegal intersection {}, uncovered {}, of them single points {}",
+            c.refused, c.passed, c.holds_zero, c.intersects, c.uncovered, c.single_point
+        )?;
+        writeln!(f, "networks with too many wires to try {}", c.too_wide)?;
+        write!(f, "{}", c.disagreements)
+    }
 }

@@ -1,17 +1,11 @@
 // The verdict, straight from its words.
-use crate::faults::first_faulty;
-use crate::instance::{Instance, Named};
+use crate::faults::{Fault, first_intersecting, first_zero_held};
+use crate::instance::Instance;
 use crate::network::Network;
 use crate::required::first_uncovered;
 
-pub(crate) fn first_fault(p: Instance, net: Network) -> Named {
-    let held = first_faulty(p, net, 2);
-    if held.number != 0 {
-        return held;
-    }
-    let met = first_faulty(p, net, 3);
-    if met.number != 0 {
-        return met;
-    }
-    first_uncovered(p, net)
+pub(crate) fn first_fault(p: Instance, net: Network) -> Option<Fault> {
+    first_zero_held(p, net)
+        .or_else(|| first_intersecting(p, net))
+        .or_else(|| first_uncovered(p, net))
 }

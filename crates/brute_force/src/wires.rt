@@ -3,7 +3,7 @@ use crate::instance::{Instance, end, start};
 use crate::network::{Network, has, output, spread};
 
 // What is found of a network.
-#[derive(Clone, Copy)]
+#[derive(Clone, Copy, PartialEq, Eq)]
 pub enum Found {
     HazardFree,
     Hazard,
@@ -21,7 +21,7 @@ fn leaves(net: Network, a: u64, moved: u64, moving: u64, last: bool) -> bool {
         if rest == 0 {
             return false;
         }
-        let wire = rest & std::num::wrapping_sub_u64(0, rest);
+        let wire = rest & rest.wrapping_neg();
         if output(net, a, moved | wire) != last {
             return true;
         }
@@ -35,12 +35,10 @@ fn leaves(net: Network, a: u64, moved: u64, moving: u64, last: bool) -> bool {
 fn right_at(net: Network, a: u64, moved: u64, moving: u64, first: bool, last: bool) -> bool {
     let now = output(net, a, moved);
     if first == last {
-        return now == last;
+        now == last
+    } else {
+        now != last || !leaves(net, a, moved, moving, last)
     }
-    if now != last {
-        return true;
-    }
-    !leaves(net, a, moved, moving, last)
 }
 
 // Every set of the moving wires, `count` of them: taking `moving` away adds 1 through its bits alone.
@@ -50,7 +48,7 @@ fn right_at_all(net: Network, a: u64, moving: u64, count: u64, first: bool, last
         if !right_at(net, a, moved, moving, first, last) {
             return false;
         }
-        moved = std::num::wrapping_sub_u64(moved, moving) & moving;
+        moved = moved.wrapping_sub(moving) & moving;
     }
     true
 }
@@ -62,13 +60,10 @@ fn allowed(p: Instance, net: Network, k: u64) -> Found {
     let first = has(p.ones, a);
     let last = has(p.ones, b);
     let moving = net.care & spread(a ^ b);
-    if output(net, a, 0) != first {
+    if output(net, a, 0) != first || output(net, a, moving) != last {
         return Found::Hazard;
     }
-    if output(net, a, moving) != last {
-        return Found::Hazard;
-    }
-    let wires = u64::count_ones(moving);
+    let wires = moving.count_ones();
     if WIDEST < wires {
         return Found::TooWide;
     }
@@ -83,15 +78,8 @@ fn allowed(p: Instance, net: Network, k: u64) -> Found {
 fn right_values(p: Instance, net: Network, due: u64) -> bool {
     for x in 0..16u64 {
         let shown = output(net, x, 0);
-        if has(p.zeros, x) {
-            if shown {
-                return false;
-            }
-        }
-        if has(due, x) {
-            if !shown {
-                return false;
-            }
+        if shown && has(p.zeros, x) || !shown && has(due, x) {
+            return false;
         }
     }
     true

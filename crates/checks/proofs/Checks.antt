@@ -1,7 +1,9 @@
 -- What the checks say, one after another, and what they leave of a problem.
 use mathlib.Core.Path.{◌≡◌, sym, ap, subst, ◌∙◌}
 use mathlib.Core.List.{List}
-use mathlib.Core.Option.{Option, none, some}
+use Rattle.std.specs.Prelude.{Option, None, Some, Result, Ok, Err}
+use Rattle.std.specs.Result.{IsErrAnd}
+use Rattle.std.proofs.lemmas.Result.{err_from_is_err_and}
 use Prim.Native.Nat.{ℕ, ◌≤◌}
 use lib.ListN.{length, take}
 use Rattle.hazard.specs.Limits.{most_required}
@@ -23,8 +25,6 @@ use Rattle.refusal.specs.declared.refusal.Refusal.{Refusal}
 use Rattle.form.specs.Formed.{Formed}
 use Rattle.checks.specs.Problem.{Privileged, few_cubes, Problem}
 use Rattle.checks.specs.Answer.{Answer}
-use Rattle.checks.specs.declared.check.Counted.{Counted}
-use Rattle.checks.specs.declared.check.Counted.TheVariants as counted
 
 -- The planes of a problem of the right form.
 module _ {n : ℕ} {f ts : List ℕ} (w : List ℕ) (g : Formed n f ts) (long : length w ≡ words) (z : Plane f 0 (zeros_in w)) (o : Plane f 1 (ones_in w)) where
@@ -35,11 +35,11 @@ module _ {n : ℕ} {f ts : List ℕ} (w : List ℕ) (g : Formed n f ts) (long : 
   formed_table = table_is n w z o g.whole g.bytes
 
   -- Where check 6 finds nothing, kinds can be told.
-  pub formed_ready : first_of (spec.points_checks n (table_in n w) ts) ≡ none → Ready n w ts
+  pub formed_ready : first_of (spec.points_checks n (table_in n w) ts) ≡ None → Ready n w ts
   formed_ready e = defined_ready formed_planes g.listed (first_of-none (spec.points_checks n (table_in n w) ts) e (search entries depth 20))
 
   module _ {v : List ℕ} (h : Privileged n ts w v) where
-    pub stored_ready : first_of (spec.points_checks n (table_in n w) ts) ≡ none → Ready n v ts
+    pub stored_ready : first_of (spec.points_checks n (table_in n w) ts) ≡ None → Ready n v ts
     stored_ready e =
         let r = formed_ready e in
         let t = table_same n w v h.zeros' h.ones' in
@@ -49,7 +49,7 @@ module _ {n : ℕ} {f ts : List ℕ} (w : List ℕ) (g : Formed n f ts) (long : 
     stored_table = table_same n w v h.zeros' h.ones' ∙ formed_table
 
     -- The problem, with its required cubes counted and stored.
-    pub problem_stored : first_of (spec.points_checks n (table_in n w) ts) ≡ none → {before after : List ℕ} → length before ≡ few_cubes
+    pub problem_stored : first_of (spec.points_checks n (table_in n w) ts) ≡ None → {before after : List ℕ} → length before ≡ few_cubes
         → {k : ℕ} → Held n (required_in n) before after k (required n (table_in n v) ts) → Problem n f ts v after k
     problem_stored e {after = after} m c =
         record {
@@ -65,15 +65,19 @@ module _ {n : ℕ} {f ts : List ℕ} (w : List ℕ) (g : Formed n f ts) (long : 
 
 -- The answer, by its cases.
 module _ (n : ℕ) (f ts w few : List ℕ) where
-  pub answer_as : {o p : Option spec.Refusal} → o ≡ p → (r : Counted) → Answer p n f ts w few r → Answer o n f ts w few r
-  answer_as e (counted.Accepted k) h = (e ∙ h.0, h.1)
-  answer_as e (counted.Refused q) h = e ∙ h
+  pub answer_as : {o p : Option spec.Refusal} → o ≡ p → (r : Result ℕ Refusal) → Answer p n f ts w few r → Answer o n f ts w few r
+  answer_as e (Ok k) h = (e ∙ h.0, h.1)
+  answer_as e (Err q) h = e ∙ h
 
-  pub answer_accepted : {r : Counted} (o : Option spec.Refusal) → Answer o n f ts w few r → {k : ℕ} → r ≡ counted.Accepted k → (o ≡ none) × Problem n f ts w few k
+  pub answer_accepted : {r : Result ℕ Refusal} (o : Option spec.Refusal) → Answer o n f ts w few r → {k : ℕ} → r ≡ Ok k → (o ≡ None) × Problem n f ts w few k
   answer_accepted o h e = subst (Answer o n f ts w few) e h
 
-  pub answer_refused : {r : Counted} (o : Option spec.Refusal) → Answer o n f ts w few r → {q : Refusal} → r ≡ counted.Refused q → some (refusal_of q) ≡ o
+  pub answer_refused : {r : Result ℕ Refusal} (o : Option spec.Refusal) → Answer o n f ts w few r → {q : Refusal} → r ≡ Err q → Some (refusal_of q) ≡ o
   answer_refused o h e = sym (subst (Answer o n f ts w few) e h)
+
+  -- `?` hands a refusal on.
+  pub answer_handed : {A : Type 0} {x : Result A Refusal} {q : Refusal} → x ≡ Err q → (o : Option spec.Refusal) → o ≡ Some (refusal_of q) → (r : Result ℕ Refusal) → IsErrAnd r (λ p. p ≡ q) → Answer o n f ts w few r
+  answer_handed w o e r h = let p = err_from_is_err_and r h in rw (p.1, p.2) e
 
 -- An accepted problem, said of the table that its context holds.
 pub accepted_in : {n : ℕ} {f ts w few : List ℕ} {k : ℕ} → spec.Accepted n f ts × Problem n f ts w few k → spec.Accepted n (table_in n w) ts × Problem n (table_in n w) ts w few k

@@ -11,16 +11,8 @@ use crate::stored::{FEW, sets_into, store_required};
 use context::places::WORDS;
 use context::planes::planes_into;
 use form::form::form_checks;
-use refusal::checked::Checked;
 use refusal::refusal::Refusal;
 use rules::run::points_checks;
-
-// What the input rules say: how many required cubes there are, or a refusal.
-#[derive(Clone, Copy)]
-pub enum Counted {
-    Accepted(usize),
-    Refused(Refusal),
-}
 
 // Checks 6 and 7. The table is read, into the planes of the context; from there on the context says all of it.
 fn problem_into(
@@ -29,17 +21,15 @@ fn problem_into(
     transitions: &[u16],
     context: &mut [u64],
     required: &mut [u64],
-) -> Counted
+) -> Result<usize, Refusal>
     requires { Formed n table.now transitions.now × (length context.old ≡ words) × (length required.old ≡ few_cubes) }
     ensures { Answer (first_of (points_checks n table.now transitions.now)) n table.now transitions.now context.new required.new result }
 {
     planes_into(table, context);
-    if let Checked::Refused(r) = points_checks(n, context, transitions) {
-        return Counted::Refused(r);
-    }
+    points_checks(n, context, transitions)?;
     sets_into(n, transitions, context);
     let count = store_required(n, context, transitions, required);
-    Counted::Accepted(count)
+    Ok(count)
 }
 
 // The input rules. Nothing is asked of the problem that comes in; its context is made, and its required cubes are counted, and stored where
@@ -50,11 +40,9 @@ pub fn check(
     transitions: &[u16],
     context: &mut [u64; WORDS],
     required: &mut [u64; FEW],
-) -> Counted
+) -> Result<usize, Refusal>
     ensures { Answer (first_of (input_checks n table.now transitions.now)) n table.now transitions.now context.new required.new result }
 {
-    if let Checked::Refused(r) = form_checks(n, table, transitions) {
-        return Counted::Refused(r);
-    }
+    form_checks(n, table, transitions)?;
     problem_into(n, table, transitions, context, required)
 }

@@ -3,7 +3,7 @@ use mathlib.Core.Path.{◌≡◌, sym, ap, ◌∙◌}
 use mathlib.Core.Bool.{Bool, false, not, cond, ◌&&◌, ◌||◌}
 use mathlib.Core.Logic.{◌⊎◌, inl, inr}
 use mathlib.Core.List.{List, [], ◌∷◌, ◌++◌, map-append}
-use mathlib.Core.Option.{some}
+use Rattle.std.specs.Prelude.{Some}
 use Prim.Native.Nat.{ℕ, ◌+◌, ◌*◌, ◌≤◌, ◌<◌}
 use native.Mathlib.Numerals.{add-one}
 use native.Mathlib.Omega.{arith}
@@ -34,7 +34,7 @@ pub record Choosing (P : ℕ → Type 0) (n : ℕ) (required firsts products : L
   -- A flag is set exactly if its required cube lies in a product chosen so far,
   pub flagged : Flagged n required flags (network_in n (take m products))
   -- and then the first of these is noted.
-  pub each : (k : ℕ) → k < length required → T (get_or flags k false) → first_in (network_in n (take m products)) (cube_in n (get_or required k 0)) ≡ some (get_or firsts k 0)
+  pub each : (k : ℕ) → k < length required → T (get_or flags k false) → first_in (network_in n (take m products)) (cube_in n (get_or required k 0)) ≡ Some (get_or firsts k 0)
   pub covers : (k : ℕ) → k < i → T (covered (network_in n (take m products)) (cube_in n (get_or required k 0)))
 
 pub choosing_start : (P : ℕ → Type 0) (n : ℕ) (required firsts products : List ℕ) → length required ≤ most_required → length firsts ≡ length required → length required ≤ length products
@@ -113,13 +113,13 @@ module _ {P : ℕ → Type 0} {n : ℕ} {required firsts products : List ℕ} {f
       note k a = h k ∙ ap (λ (b : Bool). cond b m (get_or firsts k 0)) (taken_is f u wide k a ∙ ap (λ (b : Bool). not (get_or flags k false) && b) (tested k a))
 
       noted : (k : ℕ) → k < length required → T (inside (cube_in n (get_or required k 0)) (cube_in n p) || get_or flags k false) → T (get_or flags k false) ⊎ (¬ T (get_or flags k false))
-          → first_in (net ++ (cube_in n p ∷ [])) (cube_in n (get_or required k 0)) ≡ some (get_or firsts' k 0)
-      noted k a v (inl o) = first-before net (cube_in n p) (cube_in n (get_or required k 0)) (s.each k a o) ∙ ap some (sym (note k a ∙ rw (is {b = get_or flags k false} o)))
+          → first_in (net ++ (cube_in n p ∷ [])) (cube_in n (get_or required k 0)) ≡ Some (get_or firsts' k 0)
+      noted k a v (inl o) = first-before net (cube_in n p) (cube_in n (get_or required k 0)) (s.each k a o) ∙ ap Some (sym (note k a ∙ rw (is {b = get_or flags k false} o)))
       noted k a v (inr o) =
           let q = isnt (get_or flags k false) o in
           let d : T (inside (cube_in n (get_or required k 0)) (cube_in n p)) = elim (or_e (inside (cube_in n (get_or required k 0)) (cube_in n p)) (get_or flags k false) v) [ inl x ↦ x | inr x ↦ absurd (o x) ] in
           first_new net (cube_in n p) (cube_in n (get_or required k 0)) (λ c. o (rw (s.flagged k a) c)) d
-          ∙ ap some (size ∙ sym (note k a ∙ rw (q, is {b = inside (cube_in n (get_or required k 0)) (cube_in n p)} d)))
+          ∙ ap Some (size ∙ sym (note k a ∙ rw (q, is {b = inside (cube_in n (get_or required k 0)) (cube_in n p)} d)))
 
 -- At the end every required cube has its first product noted.
 pub choosing_end : {P : ℕ → Type 0} {n : ℕ} {required firsts products : List ℕ} {flags : List Bool} {m i : ℕ} → Choosing P n required firsts products flags m i → length required ≤ i → Noted n required firsts (take m products)

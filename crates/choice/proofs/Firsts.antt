@@ -2,7 +2,8 @@
 use mathlib.Core.Path.{◌≡◌, refl, ap, ◌∙◌}
 use mathlib.Core.Bool.{Bool, true, false, ◌||◌}
 use mathlib.Core.List.{List, [], ◌∷◌, ◌++◌, map}
-use mathlib.Core.Option.{Option, none, some, some-injective}
+use Rattle.std.specs.Prelude.{Option, None, Some}
+use Rattle.std.proofs.lemmas.Option.{same_Some}
 use Prim.Native.Nat.{ℕ, zero, suc, ◌+◌, ◌≤◌, ◌<◌}
 use native.Mathlib.Omega.{arith}
 use lib.Dec.{T}
@@ -22,13 +23,13 @@ map-take f (suc j) (a ∷ l) = ap (λ m. f a ∷ m) (map-take f j l)
 
 module _ (net : Network) (c : Cube) where
   -- The first product contains the cube, and those before it do not.
-  pub first-covered : {j : ℕ} → first_in net c ≡ some j → (j < length net) × T (inside c (product_at net j)) × (¬ T (covered (take j net) c))
+  pub first-covered : {j : ℕ} → first_in net c ≡ Some j → (j < length net) × T (inside c (product_at net j)) × (¬ T (covered (take j net) c))
   first-covered {j} e = go (first_in net c) e (first-is (λ k. inside c (product_at net k)) 0 (length net))
     where
-      go : (o : Option ℕ) → o ≡ some j → First (λ k. inside c (product_at net k)) 0 (length net) o → (j < length net) × T (inside c (product_at net j)) × (¬ T (covered (take j net) c))
-      go none e v = none-some e
-      go (some k) e (lowest t l m h) =
-          let q : k ≡ j = some-injective k j e in
+      go : (o : Option ℕ) → o ≡ Some j → First (λ k. inside c (product_at net k)) 0 (length net) o → (j < length net) × T (inside c (product_at net j)) × (¬ T (covered (take j net) c))
+      go None e v = none-some e
+      go (Some k) e (lowest t l m h) =
+          let q : k ≡ j = same_Some k j e in
           let b : j ≤ length net = omega arith in (
             omega arith,
             rw q at t,
@@ -38,12 +39,12 @@ module _ (net : Network) (c : Cube) where
           )
 
   -- And a product that contains the cube, where those before it do not, is the first.
-  pub covered-first : (j : ℕ) → j < length net → T (inside c (product_at net j)) → ¬ T (covered (take j net) c) → first_in net c ≡ some j
+  pub covered-first : (j : ℕ) → j < length net → T (inside c (product_at net j)) → ¬ T (covered (take j net) c) → first_in net c ≡ Some j
   covered-first j l t u = go (first_in net c) (first-is (λ k. inside c (product_at net k)) 0 (length net))
     where
-      go : (o : Option ℕ) → First (λ k. inside c (product_at net k)) 0 (length net) o → o ≡ some j
-      go none (nowhere h) = absurd (h j (omega arith) (omega arith) t)
-      go (some k) (lowest s a b h) = ap some (omega (arith, low, high))
+      go : (o : Option ℕ) → First (λ k. inside c (product_at net k)) 0 (length net) o → o ≡ Some j
+      go None (nowhere h) = absurd (h j (omega arith) (omega arith) t)
+      go (Some k) (lowest s a b h) = ap Some (omega (arith, low, high))
         where
           low : ¬ (k < j)
           low p = u (covered_i (take j net) c k (omega (arith, length-take j net)) (rw (get_or-take j net k [] p) s))
@@ -52,7 +53,7 @@ module _ (net : Network) (c : Cube) where
           high p = h j (omega arith) p t
 
   -- Where there is a first one, the network covers the cube.
-  pub some-covered : {j : ℕ} → first_in net c ≡ some j → T (covered net c)
+  pub some-covered : {j : ℕ} → first_in net c ≡ Some j → T (covered net c)
   some-covered {j} e = let (l, t, u) = first-covered e in covered_i net c j l t
 
 -- One product more: a place in the products before, then the new one.
@@ -67,13 +68,13 @@ module _ (net : Network) (p c : Cube) where
   long = length-append net (p ∷ [])
 
   -- Once one product more has come, the first product is as it was, where there was one,
-  pub first-before : {v : ℕ} → first_in net c ≡ some v → first_in (net ++ (p ∷ [])) c ≡ some v
+  pub first-before : {v : ℕ} → first_in net c ≡ Some v → first_in (net ++ (p ∷ [])) c ≡ Some v
   first-before {v} e =
       let (l, i, u) = first-covered net c e in
       covered-first (net ++ (p ∷ [])) c v (omega (arith, long)) (rw (product_front net p v l) i) (λ w. u (rw (take-append-le v net (p ∷ []) (omega arith)) at w))
 
   -- and else the new one, where that contains the cube.
-  pub first_new : ¬ T (covered net c) → T (inside c p) → first_in (net ++ (p ∷ [])) c ≡ some (length net)
+  pub first_new : ¬ T (covered net c) → T (inside c p) → first_in (net ++ (p ∷ [])) c ≡ Some (length net)
   first_new n t = covered-first (net ++ (p ∷ [])) c (length net) (omega (arith, long)) (rw (product_last net p) t) (λ w. n (rw (take-append_seam net (p ∷ [])) at w))
 
 -- What one product more covers.

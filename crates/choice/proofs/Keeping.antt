@@ -4,7 +4,8 @@ use mathlib.Core.Bool.{Bool, true, false, ◌||◌}
 use mathlib.Core.Logic.{inl, inr}
 use mathlib.Core.List.Memᴰ
 use mathlib.Core.List.{List, [], ◌∷◌, ◌++◌, map, Memᴰ}
-use mathlib.Core.Option.{some, some-injective}
+use Rattle.std.specs.Prelude.{Some}
+use Rattle.std.proofs.lemmas.Option.{same_Some}
 use Prim.Native.Nat.{ℕ, zero, suc, ◌-◌, ◌≤◌, ◌<◌}
 use native.Mathlib.Nat.{not-suc-le-zero, le_of_suc-le-suc}
 use native.Mathlib.Omega.{arith}
@@ -92,14 +93,14 @@ module _ {n : ℕ} {required firsts before : List ℕ} (noted : Noted n required
     -- A required cube whose first product is j.
     first_here : (i : ℕ) → i < length required → get_or firsts i 0 ≡ j → T (inside (cube_in n (get_or required i 0)) (cube_in n (get_or before j 0))) × (¬ T (covered (network_in n (take j before)) (cube_in n (get_or required i 0))))
     first_here i l e =
-        let g : first_in (network_in n before) (cube_in n (get_or required i 0)) ≡ some j = noted.each i l ∙ ap some e in
+        let g : first_in (network_in n before) (cube_in n (get_or required i 0)) ≡ Some j = noted.each i l ∙ ap Some e in
         let (a, t, u) = first-covered (network_in n before) (cube_in n (get_or required i 0)) g in
         (rw (product_in n before j below_end) at t, λ v. u (rw (map-take (cube_in n) j before) at v))
 
     -- And the other way round.
     here_first : (i : ℕ) → i < length required → T (inside (cube_in n (get_or required i 0)) (cube_in n (get_or before j 0))) → ¬ T (covered (network_in n (take j before)) (cube_in n (get_or required i 0))) → get_or firsts i 0 ≡ j
     here_first i l t u =
-        some-injective (get_or firsts i 0) j (sym (noted.each i l) ∙ covered-first (network_in n before) (cube_in n (get_or required i 0)) j
+        same_Some (get_or firsts i 0) j (sym (noted.each i l) ∙ covered-first (network_in n before) (cube_in n (get_or required i 0)) j
         (omega (arith, below_end, length-map before (cube_in n))) (rw (product_in n before j below_end) t) (λ v. u (rw (map-take (cube_in n) j before) v)))
 
     pub keeping_skip : {b : Bool} → b ≡ found (first (needed_in firsts flags j) 0 (length firsts)) → b ≡ false → Keeping n required before now flags kept j

@@ -14,19 +14,17 @@ use Rattle.choice.proofs.Firsts.{first-covered}
 
 -- The required cubes from k on are written.
 pub record Lowering (firsts before lowest : List ℕ) (k : ℕ) : Type 0 where
-  pub within : k ≤ length firsts
   pub long : length lowest ≡ length before
   pub low : (i : ℕ) → k ≤ i → i < length firsts → get_or lowest (get_or firsts i 0) 0 ≤ i
   pub same : (i : ℕ) → k ≤ i → i < length firsts → get_or firsts (get_or lowest (get_or firsts i 0) 0) 0 ≡ get_or firsts i 0
 
 pub lowering_start : (firsts lowest : List ℕ) → Lowering firsts lowest lowest (length firsts)
-lowering_start firsts lowest = record { within = omega arith; long = refl; low = λ i h l. absurd (omega arith); same = λ i h l. absurd (omega arith) }
+lowering_start firsts lowest = record { long = refl; low = λ i h l. absurd (omega arith); same = λ i h l. absurd (omega arith) }
 
 module _ {firsts before lowest : List ℕ} {k : ℕ} (s : Lowering firsts before lowest k) where
   pub lowering_step : 0 < k → get_or firsts (k - 1) 0 < length before → Lowering firsts before (set lowest (get_or firsts (k - 1) 0) (k - 1)) (k - 1)
   lowering_step h l =
       record {
-        within = omega (arith, s.within);
         long = length-set lowest (get_or firsts (k - 1) 0) (k - 1) ∙ s.long;
         low = λ i a b. elim (ℕ_discrete (get_or firsts i 0) (get_or firsts (k - 1) 0)) [
           | yes e ↦ rw (here i e) a

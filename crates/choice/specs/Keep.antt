@@ -1,7 +1,7 @@
 -- What the choice is handed, and what it leaves.
 use Rattle.std.specs.Prelude.{◌≡◌, Bool, false, not, ◌&&◌, ℕ, ◌≤◌, ◌<◌, T, eqb, length, get_or, drop}
 use mathlib.Core.List.{List, map, Memᴰ}
-use Rattle.std.proofs.Math.Option.{some}
+use Rattle.std.specs.Prelude.{Some}
 use Rattle.hazard.specs.Limits.{most_required}
 use Rattle.hazard.specs.Sets.{Required}
 use Rattle.hazard.specs.Cover.{covered, Irredundant}
@@ -19,7 +19,7 @@ pub record Lowest (firsts lowest : List ℕ) : Type 0 where
 
 -- For each required cube the place of its first product is noted, and there are no more products than required cubes.
 pub record Noted (n : ℕ) (required firsts products : List ℕ) : Type 0 where
-  pub each : (i : ℕ) → i < length required → first_in (network_in n products) (cube_in n (get_or required i 0)) ≡ some (get_or firsts i 0)
+  pub each : (i : ℕ) → i < length required → first_in (network_in n products) (cube_in n (get_or required i 0)) ≡ Some (get_or firsts i 0)
   pub whole : length firsts ≡ length required
   pub many : length required ≤ most_required
   pub few : length products ≤ length required

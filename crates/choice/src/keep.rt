@@ -16,10 +16,7 @@ fn needed_at(firsts: &[u16], flags: &[bool], j: u16, i: usize) -> bool
     requires { (i < length firsts.now) × (i < length flags.now) }
     ensures { result ≡ needed_in firsts.now flags.now j i }
 {
-    if firsts[i] == j {
-        return !flags[i];
-    }
-    false
+    firsts[i] == j && !flags[i]
 }
 
 // Some required cube needs product j: it has it for its first, and lies in no product kept so far.
@@ -27,14 +24,7 @@ fn needed_by_any(firsts: &[u16], flags: &[bool], j: u16) -> bool
     requires { length firsts.now ≤ length flags.now }
     ensures { result ≡ found (first (needed_in firsts.now flags.now j) 0 (length firsts.now)) }
 {
-    let mut i = 0;
-    while i < firsts.len() {
-        if needed_at(firsts, flags, j, i) {
-            return true;
-        }
-        i += 1;
-    }
-    false
+    (0..firsts.len()).any(|i| needed_at(firsts, flags, j, i))
 }
 
 // Some required cube needs product j. The lowest that has it for its first mostly does, so it is asked before the others.
@@ -43,12 +33,7 @@ fn needed(firsts: &[u16], flags: &[bool], j: u16, lowest: u16) -> bool
     ensures { result ≡ found (first (needed_in firsts.now flags.now j) 0 (length firsts.now)) }
 {
     let i = lowest as usize;
-    if i < firsts.len() {
-        if needed_at(firsts, flags, j, i) {
-            return true;
-        }
-    }
-    needed_by_any(firsts, flags, j)
+    (i < firsts.len() && needed_at(firsts, flags, j, i)) || needed_by_any(firsts, flags, j)
 }
 
 // For each product the lowest required cube that has it for its first.
@@ -56,9 +41,7 @@ fn lowest_into(firsts: &[u16], lowest: &mut [u16])
     requires { (length firsts.now ≤ most_required) × (length lowest.old ≡ most_required) × ((i : ℕ) → i < length firsts.now → get_or firsts.now i 0 < most_required) }
     ensures { Lowest firsts.now lowest.new }
 {
-    let mut i = firsts.len();
-    while 0 < i {
-        i -= 1;
+    for i in (0..firsts.len()).rev() {
         lowest[firsts[i] as usize] = i as u16;
     }
 }
@@ -84,9 +67,7 @@ pub fn irredundant_from(
     lowest_into(firsts, &mut lowest);
     whole_into(required.len(), &mut uncovered[0..b]);
     let mut kept = products.len();
-    let mut j = products.len();
-    while 0 < j {
-        j -= 1;
+    for j in (0..products.len()).rev() {
         let p = products[j];
         if needed(firsts, &flags, j as u16, lowest[j]) {
             kept -= 1;

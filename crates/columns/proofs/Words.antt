@@ -59,12 +59,13 @@ module _ (care value : ℕ) where
       (record { zero = bit_xor 18446744073709551615 (bit_and care value); one = bit_xor 18446744073709551615 (zeros care value); absent = 18446744073709551615 })
   meeting_allowing = record { zero' = no_one; one' = no_zero; absent' = inside_allowing.absent' }
 
-  pub containing_allowing : Allowing (λ e d. fits d e) care value
-      (record { zero = bit_xor 18446744073709551615 (bit_and care value); one = bit_xor 18446744073709551615 (zeros care value); absent = bit_xor 18446744073709551615 care })
-  containing_allowing =
+  -- The digits 0 and 1 of rows that contain the cube are those of rows that meet it.
+  pub containing_allowing : {r : Allowed} → Allowing (λ e d. eqb d 2 || fits d e) care value r
+      → Allowing (λ e d. fits d e) care value (record { zero = r.zero; one = r.one; absent = bit_xor 18446744073709551615 care })
+  containing_allowing s =
       record {
-        zero' = no_one;
-        one' = no_zero;
+        zero' = s.zero';
+        one' = s.one';
         absent' = λ k h. by_bits (bit (bit_xor 18446744073709551615 care) k) k (λ c v. bit_xor 1 c) (λ e. fits 2 e) (not-bit care k h) refl refl refl refl;
       }
 

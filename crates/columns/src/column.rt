@@ -8,9 +8,7 @@ pub fn column(words: &[u64], b: usize) -> u64
     ensures { result ≡ column_of b words.now }
 {
     let mut r = 0;
-    let mut k = words.len();
-    while 0 < k {
-        k -= 1;
+    for k in (0..words.len()).rev() {
         r = r * 2 + (words[k] >> b) % 2;
     }
     r

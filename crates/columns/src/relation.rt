@@ -23,6 +23,8 @@ pub struct Allowed {
     pub absent: u64,
 }
 
+// Three functions and not one with the test as a parameter: `inside_words` and `meeting_words` share no formula but `ones`.
+
 // A row's digit is the cube's, or the cube has no literal.
 fn inside_words(care: u64, value: u64) -> Allowed
     ensures { Allowing (λ e d. fits e d) care value result }
@@ -47,15 +49,13 @@ fn meeting_words(care: u64, value: u64) -> Allowed
     }
 }
 
-// A row has no literal, or the cube's.
+// A row has no literal, or the cube's: as for rows that meet it, but a row allows no absent literal where it has one.
 fn containing_words(care: u64, value: u64) -> Allowed
     ensures { Allowing (λ e d. fits d e) care value result }
 {
-    let ones = care & value;
     Allowed {
-        zero: u64::MAX ^ ones,
-        one: u64::MAX ^ (care ^ ones),
         absent: u64::MAX ^ care,
+        ..meeting_words(care, value)
     }
 }
 

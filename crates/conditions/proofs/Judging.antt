@@ -1,7 +1,7 @@
 -- The products tried one after another for (a) and (c): the loop's invariant, and how its verdict becomes the network's.
 use mathlib.Core.Path.{◌≡◌, refl, sym, ap, ◌∙◌}
 use mathlib.Core.List.{List, [], ◌∷◌}
-use mathlib.Core.Option.{Option, none, some}
+use Rattle.std.specs.Prelude.{Option, None, Some}
 use Prim.Native.Nat.{ℕ, ◌+◌, ◌-◌, ◌≤◌, ◌<◌}
 use native.Mathlib.Nat.{sub-zero, sub-eq-zero_of_le}
 use native.Mathlib.Numerals.{add-one}
@@ -20,45 +20,45 @@ pub record Judging (zero meets : ℕ → Option ℕ) (n j : ℕ) (met : Option (
   pub first : first_place meets 0 n ≡ first_of (met ∷ first_place meets j (n - j) ∷ [])
 
 first_of_last : {A : Type 0} (o : Option A) → o ≡ first_of (o ∷ [])
-first_of_last none = refl
-first_of_last (some a) = refl
+first_of_last None = refl
+first_of_last (Some a) = refl
 
-pub judging_start : (zero meets : ℕ → Option ℕ) (n : ℕ) → Judging zero meets n 0 none
+pub judging_start : (zero meets : ℕ → Option ℕ) (n : ℕ) → Judging zero meets n 0 None
 judging_start zero meets n = record { zeros = places_start zero n; first = rw sub-zero (first_of_last (first_place meets 0 n)) }
 
 module _ {zero meets : ℕ → Option ℕ} {n j : ℕ} {met : Option (ℕ × ℕ)} (g : Judging zero meets n j met) where
-  pub judging_hit : j < n → {x : ℕ} → zero j ≡ some x → holds_zero j x ≡ first_fault (first_place zero 0 n) (first_place meets 0 n) none
+  pub judging_hit : j < n → {x : ℕ} → zero j ≡ Some x → holds_zero j x ≡ first_fault (first_place zero 0 n) (first_place meets 0 n) None
   judging_hit h e = rw (sym (places_hit g.zeros h e))
 
-  pub judging_miss : j < n → zero j ≡ none → {here : Option ℕ} → here ≡ meets j → {next : Option (ℕ × ℕ)} → next ≡ first_of (met ∷ first_place (λ k. here) j 1 ∷ []) → Judging zero meets n (j + 1) next
+  pub judging_miss : j < n → zero j ≡ None → {here : Option ℕ} → here ≡ meets j → {next : Option (ℕ × ℕ)} → next ≡ first_of (met ∷ first_place (λ k. here) j 1 ∷ []) → Judging zero meets n (j + 1) next
   judging_miss h e {here} q {next} r = record { zeros = places_miss g.zeros h e; first = g.first ∙ go met here q next r }
     where
       go : (m : Option (ℕ × ℕ)) (o : Option ℕ) → o ≡ meets j → (k : Option (ℕ × ℕ)) → k ≡ first_of (m ∷ first_place (λ _. o) j 1 ∷ []) → first_of (m ∷ first_place meets j (n - j) ∷ []) ≡ first_of (k ∷ first_place meets (j + 1) (n - (j + 1)) ∷ [])
-      go (some p) o s k t = rw t
-      go none none s k t = rw (t, left n j h, sym s, first_place, add-one)
-      go none (some x) s k t = rw (t, left n j h, sym s, first_place)
+      go (Some p) o s k t = rw t
+      go None None s k t = rw (t, left n j h, sym s, first_place, add-one)
+      go None (Some x) s k t = rw (t, left n j h, sym s, first_place)
 
-  pub judging_end : n ≤ j → first_fault none met none ≡ first_fault (first_place zero 0 n) (first_place meets 0 n) none
+  pub judging_end : n ≤ j → first_fault None met None ≡ first_fault (first_place zero 0 n) (first_place meets 0 n) None
   judging_end h = go met (first_place zero 0 n) (first_place meets 0 n) (sym (places_end g.zeros h)) (g.first ∙ ap (λ (k : ℕ). first_of (met ∷ first_place meets j k ∷ [])) (sub-eq-zero_of_le h))
     where
-      go : (m a c : Option (ℕ × ℕ)) → a ≡ none → c ≡ first_of (m ∷ none ∷ []) → first_fault none m none ≡ first_fault a c none
-      go none a c p q = rw (p, q)
-      go (some x) a c p q = rw (p, q)
+      go : (m a c : Option (ℕ × ℕ)) → a ≡ None → c ≡ first_of (m ∷ None ∷ []) → first_fault None m None ≡ first_fault a c None
+      go None a c p q = rw (p, q)
+      go (Some x) a c p q = rw (p, q)
 
 -- A fault of the products stays the first one, and without one (b) decides.
-fault-stays : (a c : Option (ℕ × ℕ)) (b : Option Required) → (first_fault a c none ≡ passed → ⊥) → first_fault a c none ≡ first_fault a c b
-fault-stays (some p) c b h = refl
-fault-stays none (some p) b h = refl
-fault-stays none none b h = absurd (h refl)
+fault-stays : (a c : Option (ℕ × ℕ)) (b : Option Required) → (first_fault a c None ≡ passed → ⊥) → first_fault a c None ≡ first_fault a c b
+fault-stays (Some p) c b h = refl
+fault-stays None (Some p) b h = refl
+fault-stays None None b h = absurd (h refl)
 
-fault-later : (a c : Option (ℕ × ℕ)) (b : Option Required) → first_fault a c none ≡ passed → first_fault none none b ≡ first_fault a c b
-fault-later (some p) c b e = let q = ap (λ (v : Verdict). (fields_of v).number) e in absurd (omega (arith, q))
-fault-later none (some p) b e = let q = ap (λ (v : Verdict). (fields_of v).number) e in absurd (omega (arith, q))
-fault-later none none b e = refl
+fault-later : (a c : Option (ℕ × ℕ)) (b : Option Required) → first_fault a c None ≡ passed → first_fault None None b ≡ first_fault a c b
+fault-later (Some p) c b e = let q = ap (λ (v : Verdict). (fields_of v).number) e in absurd (omega (arith, q))
+fault-later None (Some p) b e = let q = ap (λ (v : Verdict). (fields_of v).number) e in absurd (omega (arith, q))
+fault-later None None b e = refl
 
-module _ (n : ℕ) (w : List ℕ) (rs : List Required) (net : Network) {v : Verdict} (e : v ≡ first_fault (fault_a n (off_in w) net) (fault_c (privileged_of n w) net) none) where
+module _ (n : ℕ) (w : List ℕ) (rs : List Required) (net : Network) {v : Verdict} (e : v ≡ first_fault (fault_a n (off_in w) net) (fault_c (privileged_of n w) net) None) where
   pub judged_stays : (v ≡ passed → ⊥) → v ≡ first_fault (fault_a n (off_in w) net) (fault_c (privileged_of n w) net) (fault_b rs net)
   judged_stays h = e ∙ fault-stays (fault_a n (off_in w) net) (fault_c (privileged_of n w) net) (fault_b rs net) (λ q. h (e ∙ q))
 
-  pub judged_later : v ≡ passed → {b : Option Required} → b ≡ fault_b rs net → first_fault none none b ≡ first_fault (fault_a n (off_in w) net) (fault_c (privileged_of n w) net) (fault_b rs net)
-  judged_later h q = ap (first_fault none none) q ∙ fault-later (fault_a n (off_in w) net) (fault_c (privileged_of n w) net) (fault_b rs net) (sym e ∙ h)
+  pub judged_later : v ≡ passed → {b : Option Required} → b ≡ fault_b rs net → first_fault None None b ≡ first_fault (fault_a n (off_in w) net) (fault_c (privileged_of n w) net) (fault_b rs net)
+  judged_later h q = ap (first_fault None None) q ∙ fault-later (fault_a n (off_in w) net) (fault_c (privileged_of n w) net) (fault_b rs net) (sym e ∙ h)

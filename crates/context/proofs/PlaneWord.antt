@@ -87,9 +87,6 @@ plane_word_lem f v w m h l past =
         let g = past (x % 64) (omega (arith, i)) (omega arith) in
         ap (λ (b : ℕ). eqb b 1) (bit_past (plane_word f v (64 * w) m) m (x % 64) (plane_lt f v (64 * w) m) (omega (arith, i))) ∙ sym (valued_out f v x (omega (arith, g, e)))
 
-pub plane_empty : (f : List ℕ) (v w : ℕ) → length f ≤ 64 * w → WordOf (valued f v) w 0
-plane_empty f v w h = record { small = omega arith; bits = λ x q. ap (λ (y : ℕ). eqb (y % 2) 1) (zero-div (2 ^ (x % 64))) ∙ sym (valued_out f v x (omega arith)) }
-
 -- Sixteen such words are the plane.
 pub plane_is : (f : List ℕ) (v : ℕ) (out : List ℕ) → length f ≤ 1024 → length out ≡ 16 → ((w : ℕ) → w < 16 → WordOf (valued f v) w (get_or out w 0)) → Plane f v out
 plane_is f v out h l words = record { long = l; is = λ x. go x (dec_lt x 1024) }

@@ -21,7 +21,7 @@ pub const COUNT: usize = STARTS + 30;
 // How many words a context has.
 pub const WORDS: usize = COUNT + 1;
 
-// The parts.
+// The parts, each by its name. Not one function with two places for arguments: no caller is to write a place.
 pub fn zeros(context: &[u64]) -> &[u64]
     requires { length context.now ≡ words }
     ensures { result.now ≡ zeros_in context.now }

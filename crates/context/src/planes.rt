@@ -37,9 +37,7 @@ fn values_from(table: &[u8], x: usize, m: usize) -> Values
     ensures { (result.zeros ≡ plane_word table.now 0 x m) × (result.ones ≡ plane_word table.now 1 x m) }
 {
     let mut values = Values { zeros: 0, ones: 0 };
-    let mut i = m;
-    while 0 < i {
-        i -= 1;
+    for i in (0..m).rev() {
         values = prepended(values, table[x + i]);
     }
     values
@@ -51,14 +49,10 @@ fn values_at(table: &[u8], w: usize) -> Values
     ensures { WordOf (valued table.now 0) w result.zeros × WordOf (valued table.now 1) w result.ones }
 {
     let x = 64 * w;
-    let size = table.len();
-    if size <= x {
+    if table.len() <= x {
         return Values { zeros: 0, ones: 0 };
     }
-    if size - x < 64 {
-        return values_from(table, x, size - x);
-    }
-    values_from(table, x, 64)
+    values_from(table, x, (table.len() - x).min(64))
 }
 
 // The table's planes, stored at their places.
@@ -66,11 +60,9 @@ pub fn planes_into(table: &[u8], context: &mut [u64])
     requires { (length table.now ≤ 1024) × (length context.old ≡ words) }
     ensures { Plane table.now 0 (zeros_in context.new) × Plane table.now 1 (ones_in context.new) }
 {
-    let mut w = 0;
-    while w < 16 {
+    for w in 0..16 {
         let values = values_at(table, w);
         context[ZEROS + w] = values.zeros;
         context[ONES + w] = values.ones;
-        w += 1;
     }
 }

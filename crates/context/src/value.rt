@@ -1,14 +1,13 @@
 // Values of points, by the planes.
 ghost use Rattle.std.specs.Prelude.{◌≡◌, cond, ◌<◌, length};
 ghost use Rattle.cube.specs.PointSet.{in_set};
-ghost use Rattle.points.specs.Found.{found_of};
 ghost use Rattle.points.specs.Walk.{lowest_on};
 ghost use Rattle.cube.specs.Mask.{Clean};
 ghost use Rattle.context.specs.Places.{words, ones_in};
 ghost use Rattle.context.specs.Context.{off_in, DontCares};
 
 use crate::places::{ONES, ZEROS, zeros};
-use points::lowest::{Found, lowest_on};
+use points::lowest::lowest_on;
 use points::walk::Walk;
 
 // 1 where the value is 1, and 0 elsewhere.
@@ -21,9 +20,9 @@ pub fn one_at(context: &[u64], x: u16) -> usize
 }
 
 // The lowest 0 that the walk comes to: what growth and condition (a) read of the table.
-pub fn lowest_zero(context: &[u64], k: Walk) -> Found
+pub fn lowest_zero(context: &[u64], k: Walk) -> Option<u16>
     requires { (length context.now ≡ words) × Clean 4 k.words }
-    ensures { found_of result ≡ lowest_on k (off_in context.now) }
+    ensures { result ≡ lowest_on k (off_in context.now) }
 {
     lowest_on(zeros(context), k)
 }
@@ -33,9 +32,7 @@ pub fn dont_cares_into(context: &[u64], out: &mut [u64])
     requires { (length context.now ≡ words) × (length out.old ≡ 16) }
     ensures { DontCares context.now out.new }
 {
-    let mut w = 0;
-    while w < 16 {
+    for w in 0..16 {
         out[w] = u64::MAX ^ (context[ZEROS + w] | context[ONES + w]);
-        w += 1;
     }
 }

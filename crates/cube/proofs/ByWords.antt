@@ -2,7 +2,7 @@
 use mathlib.Core.Path.{◌≡◌, refl, sym, ap, ap₂, ◌∙◌}
 use mathlib.Core.Logic.{◌≢◌}
 use mathlib.Core.Bool.{Bool, true, false, ◌&&◌}
-use mathlib.Core.Option.{Option, none, some}
+use Rattle.std.specs.Prelude.{Option, None, Some}
 use Prim.Native.Nat.{ℕ, zero, suc, ◌/◌, ◌%◌, ◌^◌, ◌<◌}
 use native.Mathlib.Nat.{mod-lt, div-one}
 use native.Mathlib.Decide.{dec_lt}
@@ -43,18 +43,18 @@ lowest-bit (suc k) r h n = go (r % 2) refl (mod-lt r (omega arith)) (λ z. lowes
     go (suc zero) e l ih = record { inside = omega arith; set = ap (λ (y : ℕ). y % 2) (div-one r) ∙ e; least = λ b h. absurd (omega arith) }
     go (suc (suc d)) e l ih = absurd (omega arith)
 
-pub first_at : (test : ℕ → Bool) (x size : ℕ) → test x ≡ true → x < size → ((y : ℕ) → y < x → test y ≡ false) → some x ≡ first test 0 size
+pub first_at : (test : ℕ → Bool) (x size : ℕ) → test x ≡ true → x < size → ((y : ℕ) → y < x → test y ≡ false) → Some x ≡ first test 0 size
 first_at test x size e l h = go (first test 0 size) (first-is test 0 size)
   where
-    go : (o : Option ℕ) → First test 0 size o → some x ≡ o
-    go none (nowhere k) = absurd (k x (omega arith) (omega arith) (so e))
-    go (some y) (lowest t a b k) =
+    go : (o : Option ℕ) → First test 0 size o → Some x ≡ o
+    go None (nowhere k) = absurd (k x (omega arith) (omega arith) (so e))
+    go (Some y) (lowest t a b k) =
         elim (dec_lt y x) [
           | yes i ↦ absurd (so_not (h y i) t)
-          | no i ↦ elim (dec_lt x y) [ yes j ↦ absurd (k x (omega arith) j (so e)) | no j ↦ let q : x ≡ y = omega (arith, i, j) in ap some q ]
+          | no i ↦ elim (dec_lt x y) [ yes j ↦ absurd (k x (omega arith) j (so e)) | no j ↦ let q : x ≡ y = omega (arith, i, j) in ap Some q ]
         ]
 
-pub first-not : (test : ℕ → Bool) (size : ℕ) → ((y : ℕ) → y < size → test y ≡ false) → none ≡ first test 0 size
+pub first-not : (test : ℕ → Bool) (size : ℕ) → ((y : ℕ) → y < size → test y ≡ false) → None ≡ first test 0 size
 first-not test size h = sym (none_first test 0 size (λ x a b. so_not (h x (omega (arith, b)))))
 
 -- The points of a cube, by the words that have points of it and by the mask of its points in them.

@@ -2,7 +2,7 @@
 use mathlib.Core.Path.{◌≡◌, refl, sym, ap, ◌∙◌}
 use mathlib.Core.Bool.{Bool, true, false}
 use mathlib.Core.List.{List, [], ◌∷◌, map}
-use mathlib.Core.Option.{Option, none, some}
+use Rattle.std.specs.Prelude.{Option, None, Some}
 use Prim.Native.Nat.{ℕ, suc, ◌+◌, ◌≤◌, ◌<◌}
 use native.Mathlib.Numerals.{add-one}
 use lib.ListN.{length, get_or, drop, drop_of_length-le}
@@ -28,10 +28,10 @@ module _ {A : Type 0} {look : List ℕ → A} {l : List ℕ} {k : ℕ} (s : Left
 
 -- The first word that passes a test.
 module _ {A : Type 0} (test : A → Bool) (f : ℕ → A) {l : List ℕ} {k : ℕ} (s : Left (λ w. find test (map f w)) l k) (h : k < length l) where
-  pub find_hit : test (f (get_or l k 0)) ≡ true → some (f (get_or l k 0)) ≡ find test (map f l)
+  pub find_hit : test (f (get_or l k 0)) ≡ true → Some (f (get_or l k 0)) ≡ find test (map f l)
   find_hit e = at (f (get_or l k 0)) (map f (drop (suc k) l)) e ∙ left_here s h
     where
-      at : (a : A) (m : List A) → test a ≡ true → some a ≡ find test (a ∷ m)
+      at : (a : A) (m : List A) → test a ≡ true → Some a ≡ find test (a ∷ m)
       at a m e = rw (e, find)
 
   pub find_miss : test (f (get_or l k 0)) ≡ false → Left (λ w. find test (map f w)) l (k + 1)
@@ -42,14 +42,14 @@ module _ {A : Type 0} (test : A → Bool) (f : ℕ → A) {l : List ℕ} {k : �
 
 -- The first word at which a check finds something.
 module _ {A B : Type 0} (check : A → Option B) (f : ℕ → A) {l : List ℕ} {k : ℕ} (s : Left (λ w. first_of (map check (map f w))) l k) (h : k < length l) where
-  pub check_hit : {b : B} → check (f (get_or l k 0)) ≡ some b → check (f (get_or l k 0)) ≡ first_of (map check (map f l))
+  pub check_hit : {b : B} → check (f (get_or l k 0)) ≡ Some b → check (f (get_or l k 0)) ≡ first_of (map check (map f l))
   check_hit {b} e = at (check (f (get_or l k 0))) (map check (map f (drop (suc k) l))) e ∙ left_here s h
     where
-      at : (o : Option B) (m : List (Option B)) → o ≡ some b → o ≡ first_of (o ∷ m)
+      at : (o : Option B) (m : List (Option B)) → o ≡ Some b → o ≡ first_of (o ∷ m)
       at o m e = rw (e, first_of)
 
-  pub check_miss : check (f (get_or l k 0)) ≡ none → Left (λ w. first_of (map check (map f w))) l (k + 1)
+  pub check_miss : check (f (get_or l k 0)) ≡ None → Left (λ w. first_of (map check (map f w))) l (k + 1)
   check_miss e = left-on s h (at (check (f (get_or l k 0))) (map check (map f (drop (suc k) l))) e)
     where
-      at : (o : Option B) (m : List (Option B)) → o ≡ none → first_of (o ∷ m) ≡ first_of m
+      at : (o : Option B) (m : List (Option B)) → o ≡ None → first_of (o ∷ m) ≡ first_of m
       at o m e = rw (e, first_of)

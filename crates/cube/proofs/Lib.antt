@@ -11,4 +11,4 @@ pub mod Fields
 pub mod Sweep
 pub mod ByWords
 pub mod Networks
-pub mod Copying
+pub mod Positions

@@ -28,9 +28,7 @@ pub fn product_at(n: usize, bytes: &[u8], at: usize) -> Cube
     ensures { Stands n result (take n (drop at bytes.now)) }
 {
     let mut c = Cube { care: 0, value: 0 };
-    let mut i = n;
-    while 0 < i {
-        i -= 1;
+    for i in (0..n).rev() {
         c = prepended(c, bytes[at + i]);
     }
     c
@@ -41,9 +39,7 @@ pub fn write_product(n: usize, c: Cube, out: &mut [u8], at: usize)
     requires { (n ≤ 10) × (at + n ≤ length out.old) }
     ensures { out.new ≡ paste out.old at (cube_of n c) n }
 {
-    let mut i = 0;
-    while i < n {
+    for i in 0..n {
         out[at + i] = digit_at(c, i) as u8;
-        i += 1;
     }
 }

@@ -6,9 +6,5 @@ pub fn copy_into(from: &[u64], to: &mut [u64])
     requires { length to.old ≤ length from.now }
     ensures { to.new ≡ take (length to.old) from.now }
 {
-    let mut i = 0;
-    while i < to.len() {
-        to[i] = from[i];
-        i += 1;
-    }
+    to.copy_from_slice(&from[..to.len()]);
 }

@@ -10,11 +10,9 @@ pub fn low_mask(c: Cube) -> u64
     ensures { Marks c 6 result }
 {
     let mut m = 1u64;
-    let mut i = 0usize;
-    while i < 6 {
+    for i in 0..6usize {
         let weight = 1usize << i;
-        m = m | (m << (weight ^ (c.care as usize & weight)));
-        i += 1;
+        m |= m << (weight ^ (c.care as usize & weight));
     }
     m << ((c.care & c.value) % 64)
 }

@@ -1,93 +1,67 @@
 // A case is a line: `NAME: N; TABLE; TRANSITIONS; SIZE` for both calls with a buffer of this size, or `NAME: N; TABLE; TRANSITIONS;
 // = NETWORK` for the verifier alone. The table, the transitions and the network are runs; the tables L and P have a rule.
-use crate::call::both;
-use crate::place::{find, number_at, skip};
-use crate::runs::{LONGEST, Read, bytes_into, numbers_into};
-use crate::tables::{Table, fill};
-use testing::calls::verifies;
+use crate::report::{Kept, Written};
+use crate::runs::{bytes, numbers};
+use crate::tables::table;
+use std::alloc::Global;
+use std::io;
+use testing::calls::{answer, verifies};
+use testing::marks::MARK;
+use testing::products::network_and_rest;
+use testing::report::RefusalText;
 
-// The place after a field's end.
-fn next_field(text: &[u8], at: usize) -> usize {
-    skip(text, skip(text, at, b';'), b' ')
-}
-
-fn with_network(text: &[u8], from: usize, n: usize, table: &[u8], list: &[u16]) {
-    let mut network = [0u8; LONGEST];
-    let r = bytes_into(text, skip(text, from, b' '), &mut network);
-    let count = r.count;
-    if count <= LONGEST {
-        verifies(n, table, list, &network[0..count]);
-    }
-}
-
-fn with_list(text: &[u8], from: usize, n: usize, table: &[u8], list: &[u16]) {
-    let at = skip(text, from, b'=');
-    if at == from {
-        let size = number_at(text, from);
-        both(n, table, list, size.value as usize);
-    } else {
-        with_network(text, at, n, table, list);
-    }
-}
-
-fn with_table(text: &[u8], from: usize, n: usize, table: &[u8]) {
-    let mut list = [0u16; 1024];
-    let r = numbers_into(text, from, &mut list);
-    let count = r.count;
-    if count <= 1024 {
-        with_list(text, next_field(text, r.at), n, table, &list[0..count]);
-    }
-}
-
-fn table_into(text: &[u8], from: usize, table: &mut [u8]) -> Read {
-    let at = skip(text, from, b'L');
-    if at != from {
-        fill(Table::Layers, table);
-        return Read { count: 1024, at };
-    }
-    let at = skip(text, from, b'P');
-    if at != from {
-        fill(Table::Parity, table);
-        return Read { count: 1024, at };
-    }
-    bytes_into(text, from, table)
-}
-
-fn with_inputs(text: &[u8], from: usize, n: usize) {
-    let mut table = [0u8; 2048];
-    let r = table_into(text, from, &mut table);
-    let count = r.count;
-    if count <= 2048 {
-        with_table(text, next_field(text, r.at), n, &table[0..count]);
-    }
-}
-
-// The name with its colon and the space after it.
-fn print_name(text: &[u8], from: usize, to: usize) {
-    if from <= to {
-        if to <= text.len() {
-            io::write_all(1, &text[from..to]);
+// The minimiser with a buffer of this size, and the verifier on what it wrote: no products after a refusal.
+fn both<R: Print>(
+    rt: &R,
+    alloc: Global,
+    n: usize,
+    table: &[u8],
+    transitions: &[u16],
+    size: usize,
+) -> io::Result<()> {
+    let mut cover = vec![in alloc; MARK; size]?;
+    match answer(n, table, transitions, &mut cover) {
+        Err(r) => {
+            let refusal = RefusalText(r);
+            let buffer = Kept {
+                name: "buffer",
+                bytes: &cover,
+            };
+            print!(rt; "{refusal}, {buffer}; ")?;
+            verifies(rt, n, table, transitions, &[])
+        }
+        Ok(count) => {
+            let (bytes, rest) = network_and_rest(n, count, &cover);
+            let written = Written { n, count, bytes };
+            let rest = Kept {
+                name: "rest",
+                bytes: rest,
+            };
+            print!(rt; "{written}, {rest}; ")?;
+            verifies(rt, n, table, transitions, bytes)
         }
     }
 }
 
-fn run(text: &[u8], from: usize) {
-    let colon = find(text, from, b':');
-    let to = skip(text, skip(text, colon, b':'), b' ');
-    print_name(text, from, to);
-    let n = number_at(text, to);
-    with_inputs(text, next_field(text, n.at), n.value as usize);
-}
-
-// At most 400 lines.
-pub(crate) fn run_all(text: &[u8]) {
-    let mut from = 0;
-    for _ in 0..400u64 {
-        if from < text.len() {
-            if skip(text, from, b'#') == from {
-                run(text, from);
-            }
-        }
-        from = skip(text, find(text, from, b'\n'), b'\n');
+pub(crate) fn run<R: Print>(rt: &R, alloc: Global, line: &str) -> io::Result<()> {
+    let Some((name, fields)) = line.split_once(": ") else {
+        return Ok(());
+    };
+    print!(rt; "{name}: ")?;
+    let mut fields = fields.split("; ");
+    let n = fields.next().unwrap_or("").parse().unwrap_or(0);
+    let table = table(alloc, fields.next().unwrap_or(""))?;
+    let transitions = numbers(alloc, fields.next().unwrap_or(""))?;
+    let last = fields.next().unwrap_or("");
+    if let Some(network) = last.strip_prefix('=') {
+        return verifies(rt, n, &table, &transitions, &bytes(alloc, network)?);
     }
+    both(
+        rt,
+        alloc,
+        n,
+        &table,
+        &transitions,
+        last.parse().unwrap_or(0),
+    )
 }

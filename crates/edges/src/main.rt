@@ -2,14 +2,20 @@
 // case's name and the answer.
 #![tactic(auto)]
 
-mod call;
 mod case;
-mod place;
+mod report;
 mod runs;
 mod tables;
 
-fn main() {
-    let mut text = io::large_buffer();
-    let end = io::read_full(0, &mut text);
-    case::run_all(&text[..end]);
+use std::io;
+
+fn main(rt: HostRuntime) -> io::Result<()> {
+    let alloc = rt.alloc();
+    for line in rt.lines(alloc) {
+        let line = line?;
+        if !line.starts_with('#') {
+            case::run(&rt, alloc, &line)?;
+        }
+    }
+    Ok(())
 }

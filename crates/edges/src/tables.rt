@@ -1,34 +1,21 @@
-// Tables of 10 inputs that have a rule.
-#[derive(Clone, Copy)]
-pub enum Table {
-    // 1 but for points below 32 with more than two 1s: ten points, those below 32 with exactly two, are the last 1s on the way from 0 to 31
-    Layers,
-    // 1 at an odd number of 1s: no 1 is next to another
-    Parity,
+// Tables of values: runs, or one of two tables of 10 inputs that have a rule.
+use crate::runs::bytes;
+use std::alloc::{AllocError, Global};
+
+// L: 1 but for points below 32 with more than two 1s: ten points, those below 32 with exactly two, are the last 1s on the way from 0 to 31.
+fn layer(x: u16) -> u8 {
+    u8::from(32 <= x || x.count_ones() <= 2)
 }
 
-fn layer(x: usize, ones: u32) -> u8 {
-    if 32 <= x {
-        return 1;
-    }
-    if ones <= 2 {
-        return 1;
-    }
-    0
+// P: 1 at an odd number of 1s: no 1 is next to another.
+fn parity(x: u16) -> u8 {
+    u8::from(x.count_ones() % 2 == 1)
 }
 
-fn value_of(table: Table, x: usize) -> u8 {
-    let ones = u32::count_ones((x % 1024) as u32);
-    match table {
-        Table::Layers => layer(x, ones),
-        Table::Parity => (ones % 2) as u8,
-    }
-}
-
-pub(crate) fn fill(table: Table, bytes: &mut [u8]) {
-    let mut x = 0;
-    while x < bytes.len() {
-        bytes[x] = value_of(table, x);
-        x += 1;
+pub(crate) fn table(alloc: Global, text: &str) -> Result<Vec<u8>, AllocError> {
+    match text {
+        "L" => (0..1024).map(layer).collect(alloc),
+        "P" => (0..1024).map(parity).collect(alloc),
+        _ => bytes(alloc, text),
     }
 }

@@ -1,24 +1,15 @@
 -- Loops that store: the invariant of each, where it starts, what a turn does to it, and where it ends.
-use mathlib.Core.Path.{◌≡◌, refl, sym, ap, ◌∙◌}
+use mathlib.Core.Path.{◌≡◌, refl, sym, ap, ◌∙◌, subst}
 use mathlib.Core.List.{List, [], ◌∷◌, ◌++◌, map, append_assoc, append-nil, map-append}
-use mathlib.Core.Logic.{◌≢◌}
-use Prim.Native.Nat.{ℕ, zero, suc, ◌+◌, ◌*◌, ◌%◌, ◌^◌, ◌≤◌, ◌<◌}
-use native.Mathlib.Nat.{one-mul, mod-eq_of_lt}
+use Prim.Native.Nat.{ℕ, zero, suc, ◌+◌, ◌^◌, ◌≤◌, ◌<◌}
 use native.Mathlib.Numerals.{add-one}
 use native.Mathlib.Omega.{arith}
 use native.Mathlib.Decide.{ℕ_discrete, dec_lt}
-use lib.Bits.{bit_xor}
-use lib.Count.{count_trailing_zeros}
 use lib.ListN.{length, take, set, length-append, length-take, length-set, length-map, get_or-eq_default}
-use lib.Pow.{pow-lt}
 use lib.Seq.{take_all, take_at, take-suc-set, get_or-set_same, get_or-set_other}
-use Rattle.hazard.specs.Cube.{flip}
+use Rattle.std.specs.List.{AllByRecursion}
 use Rattle.cube.specs.Entry.{CleanWord}
 use Rattle.cube.proofs.Word.{zero-clean}
-use Rattle.cube.proofs.Points.{flip-xor}
-use Rattle.cube.proofs.ByWords.{lowest-bit}
-use Rattle.points.specs.PointWord.{points_in, Below}
-use Rattle.points.proofs.Members.{points_none, points_more, cleared_less, cleared_below, lowest_below}
 use Rattle.entries.specs.Store.{Stored}
 
 -- A room of L entries: what does not fit is left out, at once or in parts.
@@ -81,44 +72,17 @@ module _ {A : Type 0} {n : ℕ} {read : ℕ → A} {before after : List ℕ} {fr
   pub filling_end : rest ≡ [] → Stored n read before after from k whole
   filling_end e = rw (s.all, e, append-nil) s.stored
 
--- A loop over the points of one word that stores an entry for each: those of what is left of the word are to come.
-pub record Storing {A : Type 0} (n : ℕ) (read entry : ℕ → A) (before after : List ℕ) (from k w rest word : ℕ) : Type 0 where
-  pub small : rest < 2 ^ 64
-  pub below : Below (2 ^ n) w rest
-  pub filling : Filling n read before after from k (map entry (points_in w rest)) (map entry (points_in w word))
+-- A loop over points that stores an entry for each: those that are left are to come.
+pub record Storing {A : Type 0} (n : ℕ) (read entry : ℕ → A) (before after : List ℕ) (from k : ℕ) (left whole : List ℕ) : Type 0 where
+  pub below : AllByRecursion (λ x. x < 2 ^ n) left
+  pub filling : Filling n read before after from k (map entry left) (map entry whole)
 
--- The code clears a bit by xor.
-clear_is : (r b : ℕ) → b < 64 → bit_xor r ((1 * 2 ^ b) % 2 ^ 64) ≡ flip r b
-clear_is r b h = ap (bit_xor r) (ap (λ (x : ℕ). x % 2 ^ 64) (one-mul (2 ^ b)) ∙ mod-eq_of_lt (pow-lt {i = b} {j = 64} h)) ∙ flip-xor r b
+pub storing_start : {A : Type 0} {n : ℕ} (read entry : ℕ → A) (out : List ℕ) (from : ℕ) {points : List ℕ} → AllByRecursion (λ x. x < 2 ^ n) points → Storing n read entry out out from from points points
+storing_start {n = n} read entry out from b = record { below = b; filling = filling_start n read out from _ }
 
-pub storing_start : {A : Type 0} {n : ℕ} (read entry : ℕ → A) (out : List ℕ) (from : ℕ) {w word : ℕ} → word < 2 ^ 64 → Below (2 ^ n) w word → Storing n read entry out out from from w word word
-storing_start {n = n} read entry out from h b = record { small = h; below = b; filling = filling_start n read out from _ }
+module _ {A : Type 0} {n : ℕ} {read entry : ℕ → A} {before after : List ℕ} {from k : ℕ} {left whole : List ℕ} (s : Storing n read entry before after from k left whole) {x : ℕ} {rest : List ℕ} (e : left ≡ x ∷ rest) where
+  all_below : AllByRecursion (λ y. y < 2 ^ n) (x ∷ rest)
+  all_below = subst (AllByRecursion (λ y. y < 2 ^ n)) e s.below
 
-module _ {A : Type 0} {n : ℕ} {read entry : ℕ → A} {before after : List ℕ} {from k w rest word : ℕ} (s : Storing n read entry before after from k w rest word) where
-  pub storing_bit : rest ≢ 0 → count_trailing_zeros 64 rest < 64
-  storing_bit ne = (lowest-bit 64 rest s.small ne).inside
-
-  pub storing_less : rest ≢ 0 → bit_xor rest ((1 * 2 ^ count_trailing_zeros 64 rest) % 2 ^ 64) < rest
-  storing_less ne = rw (clear_is rest (count_trailing_zeros 64 rest) (storing_bit ne)) (cleared_less w rest s.small ne)
-
-  pub storing_below : rest ≢ 0 → 64 * w + count_trailing_zeros 64 rest < 2 ^ n
-  storing_below ne = lowest_below w rest s.small ne s.below
-
-  pub storing_room : rest ≢ 0 → (most : ℕ) → from + length (points_in w word) ≤ most → k < most
-  storing_room ne most h =
-      let e = length-map (points_in w word) entry in
-      let g = length-map (points_in w rest) entry in
-      omega (arith, filling_room s.filling most (omega (arith, h, e)), g, ap length (points_more w rest s.small ne))
-
-  pub storing_more : rest ≢ 0 → {after' : List ℕ} {r : ℕ} → Stored n read after after' k r (entry (64 * w + count_trailing_zeros 64 rest) ∷ [])
-      → Storing n read entry before after' from r w (bit_xor rest ((1 * 2 ^ count_trailing_zeros 64 rest) % 2 ^ 64)) word
-  storing_more ne t =
-      rw (clear_is rest (count_trailing_zeros 64 rest) (storing_bit ne))
-      (record {
-        small = omega (arith, s.small, cleared_less w rest s.small ne);
-        below = cleared_below w rest s.small ne s.below;
-        filling = filling_more s.filling t (ap (map entry) (points_more w rest s.small ne));
-      })
-
-  pub storing_end : rest ≡ 0 → Stored n read before after from k (map entry (points_in w word))
-  storing_end e = filling_end s.filling (ap (λ (r : ℕ). map entry (points_in w r)) e ∙ ap (map entry) (points_none w))
+  pub storing_more : {after' : List ℕ} {r : ℕ} → Stored n read after after' k r (entry x ∷ []) → Storing n read entry before after' from r rest whole
+  storing_more t = record { below = all_below.1; filling = filling_more s.filling t (ap (map entry) e) }

@@ -1,10 +1,9 @@
 -- Entries stored in lent words.
-use Rattle.std.specs.Prelude.{◌≡◌, List, ◌++◌, map, ℕ, ◌+◌, ◌<◌, length, get_or, take}
+use Rattle.std.specs.Prelude.{◌≡◌, Option, List, ◌++◌, map, ℕ, ◌+◌, ◌<◌, length, get_or, take}
+use Rattle.std.specs.Option.{unwrap_or}
 use Rattle.hazard.specs.Cube.{span}
 use Rattle.hazard.specs.Sets.{Required}
 use Rattle.cube.specs.Entry.{CleanWord}
-use Rattle.entries.specs.declared.store.Corner.{Corner}
-use Rattle.entries.specs.declared.store.Corner.TheVariants.{At, Label}
 
 -- From place k to place r the words now hold what was added, as far as there are words; what stood before k is kept.
 pub record Stored {A : Type 0} (n : ℕ) (read : ℕ → A) (before after : List ℕ) (k r : ℕ) (added : List A) : Type 0 where
@@ -17,10 +16,6 @@ pub record Stored {A : Type 0} (n : ℕ) (read : ℕ → A) (before after : List
 abbrev pub required_to : ℕ → ℕ → ℕ → ℕ → Required
 required_to n t s x = record { transition = t; label = x; cube = span n s x }
 
--- The corner opposite the label x.
-abbrev pub corner_of : Corner → ℕ → ℕ
-corner_of (At s) x = s
-corner_of Label x = x
-
-abbrev pub required_at : ℕ → ℕ → Corner → ℕ → Required
-required_at n t corner x = required_to n t (corner_of corner x) x
+-- The same, where the corner may be the label itself.
+abbrev pub required_at : ℕ → ℕ → Option ℕ → ℕ → Required
+required_at n t corner x = required_to n t (unwrap_or corner x) x

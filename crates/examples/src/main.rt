@@ -1,34 +1,19 @@
 // Every example: the text that one argument names is answered, and the output is compared with the file that the next one names.
 #![tactic(auto)]
 
-ghost use Rattle.std.specs.Prelude.{IfOk};
-ghost use Rattle.io.specs.Counts.{IsPrefixLen};
+ghost use Rattle.std.specs.Prelude.{◌≤◌, length, IfOk};
 
 use answer_text::reply::MOST_OUTPUT;
 use quiet_text::answer::reply;
+use quiet_text::input::read_full;
 use std::env::{Env, FillError};
 use std::fs::{File, Files};
-use std::io::{Read, Write};
+use std::io::Write;
 use std::{io, str};
-
-// A file's first bytes, as many as the buffer has room for. Each turn but the last brings a byte at least.
-fn read_full<F: Read>(file: &mut F, buf: &mut [u8]) -> io::Result<usize>
-    ensures { IfOk result (λ k. IsPrefixLen k buf.new) }
-{
-    let mut done = 0;
-    for _ in 0..buf.len() {
-        let got = file.read(&mut buf[done..])?;
-        if got == 0 {
-            break;
-        }
-        done += got;
-    }
-    Ok(done)
-}
 
 // The file that a name stands for. One that is not there would read as an empty one, so it is told.
 fn named_into<R: Files + Print>(rt: &R, name: &str, buf: &mut [u8]) -> io::Result<usize>
-    ensures { IfOk result (λ k. IsPrefixLen k buf.new) }
+    ensures { IfOk result (λ k. k ≤ length buf.new) }
 {
     print!(rt; "{name} ")?;
     let Ok(mut file) = File::open(rt, name) else {
@@ -40,7 +25,7 @@ fn named_into<R: Files + Print>(rt: &R, name: &str, buf: &mut [u8]) -> io::Resul
 
 // The file that argument i names; its name is printed.
 fn file_into<R: Env + Files + Print>(rt: &R, i: usize, buf: &mut [u8]) -> io::Result<usize>
-    ensures { IfOk result (λ k. IsPrefixLen k buf.new) }
+    ensures { IfOk result (λ k. k ≤ length buf.new) }
 {
     let mut name = [0u8; 4096];
     let n = rt.arg(i, &mut name).unwrap_or(0);

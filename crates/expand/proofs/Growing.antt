@@ -1,8 +1,8 @@
 -- The loop that grows a cube.
-use mathlib.Core.Path.{◌≡◌, refl, sym, ap, ◌∙◌}
+use mathlib.Core.Path.{◌≡◌, refl, sym, ◌∙◌}
 use mathlib.Core.Bool.{Bool}
 use mathlib.Core.List.{List}
-use mathlib.Core.Option.{none, some}
+use Rattle.std.specs.Prelude.{Option, None, Some}
 use Prim.Native.Nat.{ℕ, zero, suc, ◌+◌, ◌-◌, ◌≤◌, ◌<◌}
 use native.Mathlib.Nat.{sub-zero, sub-eq-zero_of_le}
 use native.Mathlib.Numerals.{add-one}
@@ -13,9 +13,7 @@ use Rattle.hazard.specs.Sets.{Privileged}
 use Rattle.hazard.specs.Implicant.{illegal, lowest_zero}
 use Rattle.hazard.specs.Growth.{Growth, Legal, Blocked, grow_from, grow}
 use Rattle.cube.proofs.Scan.{left}
-use Rattle.points.specs.declared.lowest.Found.{Found}
 use Rattle.points.specs.declared.walk.Walk.{Walk}
-use Rattle.points.specs.Found.{found_of}
 use Rattle.points.specs.Walk.{lowest_on, Walks}
 use Rattle.points.proofs.Agree.{lowest_agrees}
 
@@ -28,23 +26,23 @@ module _ (n : ℕ) (off : ℕ → Bool) (vs : List Privileged) where
   pub growing_start : (c : Cube) → Growing c 0 (grow n off vs c)
   growing_start c = record { low = omega arith; rest = rw sub-zero }
 
-  blocked_at : (c : Cube) (k s z : ℕ) → lowest_zero n off c ≡ some z → Blocked z s ≡ grow_from n off vs k c s
+  blocked_at : (c : Cube) (k s z : ℕ) → lowest_zero n off c ≡ Some z → Blocked z s ≡ grow_from n off vs k c s
   blocked_at c zero s z e = rw (e, grow_from)
   blocked_at c (suc k) s z e = rw (e, grow_from)
 
 module _ {n : ℕ} {off : ℕ → Bool} {vs : List Privileged} {c : Cube} {s : ℕ} {g : Growth} (r : Growing n off vs c s g) where
   -- What a walk over the cube finds of the OFF-set is its lowest zero.
-  pub zero-found : {k : Walk} {f f' : Found} → Walks n k (has c) → n ≤ 10 → found_of f ≡ lowest_on k off → f ≡ f' → lowest_zero n off c ≡ found_of f'
-  zero-found w few e i = sym (e ∙ lowest_agrees w few (λ x l. refl)) ∙ ap found_of i
+  pub zero-found : {k : Walk} {f f' : Option ℕ} → Walks n k (has c) → n ≤ 10 → f ≡ lowest_on k off → f ≡ f' → lowest_zero n off c ≡ f'
+  zero-found w few e i = sym (e ∙ lowest_agrees w few (λ x l. refl)) ∙ i
 
-  pub growing_blocked : {z : ℕ} → lowest_zero n off c ≡ some z → Blocked z s ≡ g
+  pub growing_blocked : {z : ℕ} → lowest_zero n off c ≡ Some z → Blocked z s ≡ g
   growing_blocked {z} e = blocked_at n off vs c (n - s) s z e ∙ sym r.rest
 
-  pub growing_legal : s < n → lowest_zero n off c ≡ none → find (illegal c) vs ≡ none → Legal c s ≡ g
+  pub growing_legal : s < n → lowest_zero n off c ≡ None → find (illegal c) vs ≡ None → Legal c s ≡ g
   growing_legal h e i = rw (r.rest, left n s h, e, i, grow_from)
 
-  pub growing_step : {v : Privileged} → s < n → lowest_zero n off c ≡ none → find (illegal c) vs ≡ some v → Growing n off vs (join c v.start) (s + 1) g
+  pub growing_step : {v : Privileged} → s < n → lowest_zero n off c ≡ None → find (illegal c) vs ≡ Some v → Growing n off vs (join c v.start) (s + 1) g
   growing_step h e i = record { low = omega arith; rest = rw (r.rest, left n s h, e, i, grow_from, add-one) }
 
-  pub growing_end : n ≤ s → lowest_zero n off c ≡ none → Legal c s ≡ g
+  pub growing_end : n ≤ s → lowest_zero n off c ≡ None → Legal c s ≡ g
   growing_end h e = rw (r.rest, sub-eq-zero_of_le h, e, grow_from)

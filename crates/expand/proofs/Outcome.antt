@@ -1,7 +1,7 @@
 -- What is made of a growth's answer.
 use mathlib.Core.Path.{◌≡◌}
 use mathlib.Core.List.{List}
-use mathlib.Core.Option.{some}
+use Rattle.std.specs.Prelude.{Some}
 use Prim.Native.Nat.{ℕ}
 use Rattle.hazard.specs.Cube.{Cube}
 use Rattle.hazard.specs.Sets.{Required}
@@ -26,5 +26,5 @@ pub checked : {n : ℕ} {w : List ℕ} {q : Cube} {g : code.Grown} (r : Required
 checked {n} {w} r s e = rw (s.is, e)
 
 -- A growth that ended blocked is refusal 10.
-pub blocked_refusal : (n : ℕ) {g : code.Grown} {z s : ℕ} (r : Required) → g ≡ Blocked z s → blocked_by r (grown_of n g) ≡ some (block_refusal r (grown_of n g))
+pub blocked_refusal : (n : ℕ) {g : code.Grown} {z s : ℕ} (r : Required) → g ≡ Blocked z s → blocked_by r (grown_of n g) ≡ Some (block_refusal r (grown_of n g))
 blocked_refusal n r e = rw e

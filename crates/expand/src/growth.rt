@@ -6,8 +6,7 @@ ghost use Rattle.expand.specs.Answer.{Grows};
 use context::value::lowest_zero;
 use cube::entry::point_in;
 use cube::mask::{Cube, joined};
-use legality::meeting::{Met, first_illegal};
-use points::lowest::Found;
+use legality::meeting::first_illegal;
 use points::walk::walk_over;
 
 // How growth ends: legal, with the cube and the steps taken, or blocked, with the lowest zero and the steps taken.
@@ -26,18 +25,19 @@ pub fn grow(n: usize, context: &[u64], c: Cube) -> Grown
 {
     let mut cube = c;
     let mut steps: u16 = 0;
+    // Not a `for`: the steps are part of the answer, after the loop too.
     while (steps as usize) < n {
-        if let Found::At(z) = lowest_zero(context, walk_over(n, cube)) {
+        if let Some(z) = lowest_zero(context, walk_over(n, cube)) {
             return Grown::Blocked(z, steps);
         }
-        let Met::At(w) = first_illegal(n, context, cube) else {
+        let Some(w) = first_illegal(n, context, cube) else {
             return Grown::Legal(cube, steps);
         };
         cube = joined(cube, point_in(w));
         steps += 1;
     }
     match lowest_zero(context, walk_over(n, cube)) {
-        Found::At(z) => Grown::Blocked(z, steps),
-        Found::Nothing => Grown::Legal(cube, steps),
+        Some(z) => Grown::Blocked(z, steps),
+        None => Grown::Legal(cube, steps),
     }
 }

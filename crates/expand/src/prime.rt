@@ -10,13 +10,15 @@ use crate::growth::{Grown, grow};
 use cube::mask::{Cube, raised, supercube_of};
 use cube::point::bit_of;
 
-// The grown cube where growth ended legal, else the cube that was there before.
-fn grown_or(c: Cube, grown: Grown) -> Cube
-    ensures { (n : ℕ) → Clean n c → LegalClean n grown → Stands n result (spec.grown_or (cube_of n c) (grown_of n grown)) }
-{
-    match grown {
-        Grown::Legal(d, _) => d,
-        Grown::Blocked(_, _) => c,
+impl Grown {
+    // The grown cube where growth ended legal, else the cube that was there before.
+    fn cube_or(self, c: Cube) -> Cube
+        ensures { (n : ℕ) → Clean n c → LegalClean n self → Stands n result (spec.grown_or (cube_of n c) (grown_of n self)) }
+    {
+        match self {
+            Grown::Legal(d, _) => d,
+            Grown::Blocked(_, _) => c,
+        }
     }
 }
 
@@ -29,7 +31,7 @@ fn raise(n: usize, context: &[u64], c: Cube, i: usize) -> Cube
     if bit_of(c.care, i) == 0 {
         return c;
     }
-    grown_or(c, grow(n, context, raised(c, i)))
+    grow(n, context, raised(c, i)).cube_or(c)
 }
 
 // The cube with its literals raised, one after the other.
@@ -39,10 +41,8 @@ pub fn expanded(n: usize, context: &[u64], c: Cube) -> Cube
     ensures { Stands n result (spec.expand n (off_in context.now) (privileged_of n context.now) (cube_of n c)) }
 {
     let mut p = c;
-    let mut i = 0;
-    while i < n {
+    for i in 0..n {
         p = raise(n, context, p, i);
-        i += 1;
     }
     p
 }
@@ -53,5 +53,5 @@ pub fn absorbed(n: usize, context: &[u64], c: Cube, d: Cube) -> Cube
     requires clean { Clean n c }
     ensures { Stands n result (spec.absorb n (off_in context.now) (privileged_of n context.now) (cube_of n c) (cube_of n d)) }
 {
-    grown_or(c, grow(n, context, supercube_of(c, d)))
+    grow(n, context, supercube_of(c, d)).cube_or(c)
 }

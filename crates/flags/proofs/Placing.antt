@@ -80,8 +80,6 @@ placing_end {A} {d} {b} {word} {v} {old} {new} {left} s e i = sym (s.is i ∙ ap
 
 -- Word after word: v stands in the places of the rows of the words below b.
 pub record Placed {A : Type 0} (d : A) (set : List ℕ) (v : A) (old new : List A) (b : ℕ) : Type 0 where
-  pub low : b ≤ length set
-  pub long : length new ≡ length old
   pub is : (i : ℕ) → get_or new i d ≡ cond (ltb i (64 * b) && in_set set i) v (get_or old i d)
 
 not_below : (i k : ℕ) → k ≤ i → ltb i k ≡ false
@@ -91,7 +89,7 @@ below : (i k : ℕ) → i < k → ltb i k ≡ true
 below i k l = is {b = ltb i k} (lt→ltb i k l)
 
 pub placed_start : {A : Type 0} (d : A) (set : List ℕ) (v : A) (old : List A) → Placed d set v old old 0
-placed_start d set v old = record { low = omega arith; long = refl; is = λ i. rw (not_below i (64 * 0) (omega arith)) }
+placed_start d set v old = record { is = λ i. rw (not_below i (64 * 0) (omega arith)) }
 
 module _ {A : Type 0} {d : A} {set : List ℕ} {v : A} {old new : List A} {b : ℕ} (s : Placed d set v old new b) where
   -- The rows of word b are rows of the set.
@@ -100,8 +98,8 @@ module _ {A : Type 0} {d : A} {set : List ℕ} {v : A} {old new : List A} {b : �
       let (q, u) = (T_and (eqb (i / 64) b) (eqb (bit (get_or set b 0) (i % 64)) 1)).0 t in
       rw (eqb→eq (i / 64) b q) u
 
-  pub placed_step : b < length set → (next : List A) → length next ≡ length new → ((i : ℕ) → get_or next i d ≡ cond (in_word b (get_or set b 0) i) v (get_or new i d)) → Placed d set v old next (b + 1)
-  placed_step l next m h = record { low = omega arith; long = m ∙ s.long; is = λ i. h i ∙ go i (ℕ_discrete (i / 64) b) }
+  pub placed_step : b < length set → (next : List A) → ((i : ℕ) → get_or next i d ≡ cond (in_word b (get_or set b 0) i) v (get_or new i d)) → Placed d set v old next (b + 1)
+  placed_step l next h = record { is = λ i. h i ∙ go i (ℕ_discrete (i / 64) b) }
     where
       go : (i : ℕ) → Dec (i / 64 ≡ b) → cond (in_word b (get_or set b 0) i) v (get_or new i d) ≡ cond (ltb i (64 * (b + 1)) && in_set set i) v (get_or old i d)
       go i (yes q) =

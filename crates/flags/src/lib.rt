@@ -3,3 +3,4 @@
 
 pub mod first;
 pub mod flag;
+pub mod put;

@@ -1,7 +1,7 @@
 -- What the checks of the form leave.
 use mathlib.Core.Path.{◌≡◌}
 use mathlib.Core.List.{List, Memᴰ}
-use mathlib.Core.Option.{Option, none}
+use Rattle.std.specs.Prelude.{Option, None}
 use Prim.Native.Nat.{ℕ, ◌+◌, ◌*◌, ◌/◌, ◌%◌, ◌^◌, ◌<◌}
 use native.Mathlib.Omega.{arith}
 use native.Mathlib.Decide.{ℕ_discrete, dec_lt}
@@ -14,7 +14,7 @@ use Rattle.hazard.proofs.Rules.{inputs-few, length_whole, bytes-few, list_few, e
 use Rattle.form.specs.Formed.{form_checks, Formed}
 
 module _ (n : ℕ) (f ts : List ℕ) where
-  pub formed : first_of (form_checks n f ts) ≡ none → Formed n f ts
+  pub formed : first_of (form_checks n f ts) ≡ None → Formed n f ts
   formed e =
       let list = list_few ts (passes (search entries depth 20)) in
       record {
@@ -23,7 +23,7 @@ module _ (n : ℕ) (f ts : List ℕ) where
         listed = record { small = (inputs-few n (passes (search entries depth 20))).1; few = list.1; within = within list.0; narrow = bursts_narrow n ts (passes (search entries depth 20)) };
       }
     where
-      passes : {o : Option Refusal} → Memᴰ o (form_checks n f ts) → o ≡ none
+      passes : {o : Option Refusal} → Memᴰ o (form_checks n f ts) → o ≡ None
       passes = first_of-none (form_checks n f ts) e
 
       within : length ts % 2 ≡ 0 → (i : ℕ) → get_or ts i 0 < 2 ^ n

@@ -1,6 +1,6 @@
 -- Checks 1 to 5 and 14, and what they leave of a problem.
 use Rattle.std.specs.Prelude.{◌≡◌, List, [], ◌∷◌, ◌++◌, ℕ, ◌^◌, ◌≤◌, ◌<◌, length}
-use Rattle.std.proofs.Math.Option.{Option}
+use Rattle.std.specs.Prelude.{Option}
 use Rattle.hazard.specs.Transition.{value}
 use Rattle.hazard.specs.Refusal.{Refusal, inputs_check, table_checks, list_checks}
 use Rattle.kinds.specs.Ready.{Listed}

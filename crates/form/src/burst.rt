@@ -4,11 +4,11 @@ ghost use Rattle.hazard.specs.Limits.{most_moving};
 ghost use Rattle.hazard.specs.Cube.{distance};
 ghost use Rattle.hazard.specs.Transition.{count};
 ghost use Rattle.hazard.specs.Refusal.{bursts_check};
-ghost use Rattle.refusal.specs.Answer.{checked_of};
+ghost use Rattle.refusal.specs.Answer.{refused_by};
 
 use hazard::limits::MOST_MOVING;
-use kinds::transition::{end_of, start_of};
-use refusal::checked::{Checked, refused};
+use kinds::each::check_each;
+use refusal::refusal::Refusal;
 
 // More inputs move from a to b than the limit. Only n inputs are counted.
 fn is_wide(n: usize, a: u16, b: u16) -> bool
@@ -20,17 +20,14 @@ fn is_wide(n: usize, a: u16, b: u16) -> bool
 }
 
 // 14: more inputs move than the limit; the first such transition.
-pub fn check_bursts(n: usize, transitions: &[u16]) -> Checked
+pub fn check_bursts(n: usize, transitions: &[u16]) -> Result<(), Refusal>
     requires { (n ≤ 10) × (count transitions.now ≤ 64) }
-    ensures { checked_of result ≡ bursts_check n transitions.now }
+    ensures { refused_by result ≡ bursts_check n transitions.now }
 {
-    let count = transitions.len() / 2;
-    let mut t = 0;
-    while t < count {
-        if is_wide(n, start_of(transitions, t), end_of(transitions, t)) {
-            return refused(14, t as u16, 0);
+    check_each(transitions, |transition, a, b| {
+        if is_wide(n, a, b) {
+            return Err(Refusal::WideBurst { transition });
         }
-        t += 1;
-    }
-    Checked::Accepted
+        Ok(())
+    })
 }

@@ -2,45 +2,37 @@
 ghost use Rattle.std.specs.Prelude.{◌≡◌, ◌≤◌, length};
 ghost use Rattle.hazard.specs.Search.{first_of};
 ghost use Rattle.hazard.specs.Refusal.{length_check, bytes_check, table_checks};
-ghost use Rattle.refusal.specs.Answer.{checked_of};
+ghost use Rattle.refusal.specs.Answer.{refused_by};
 
-use refusal::checked::{Checked, refused};
+use refusal::refusal::Refusal;
 
 // 2: the table's length is not 2^n.
-pub fn check_length(n: usize, table: &[u8]) -> Checked
+pub fn check_length(n: usize, table: &[u8]) -> Result<(), Refusal>
     requires { n ≤ 10 }
-    ensures { checked_of result ≡ length_check n table.now }
+    ensures { refused_by result ≡ length_check n table.now }
 {
-    let points = (1u16 << n) as usize;
-    if table.len() == points {
-        return Checked::Accepted;
+    if table.len() != 1 << n {
+        return Err(Refusal::TableLength);
     }
-    refused(2, 0, 0)
+    Ok(())
 }
 
 // 3: a table byte above 2; the lowest such point.
-pub fn check_bytes(table: &[u8]) -> Checked
+pub fn check_bytes(table: &[u8]) -> Result<(), Refusal>
     requires { length table.now ≤ 1024 }
-    ensures { checked_of result ≡ bytes_check table.now }
+    ensures { refused_by result ≡ bytes_check table.now }
 {
-    let mut x = 0;
-    while x < table.len() {
-        if 2 < table[x] {
-            return refused(3, 0, x as u16);
-        }
-        x += 1;
+    match table.iter().position(|v| 2 < *v) {
+        Some(x) => Err(Refusal::TableByte { point: x as u16 }),
+        None => Ok(()),
     }
-    Checked::Accepted
 }
 
 // Both.
-pub fn table_checks(n: usize, table: &[u8]) -> Checked
+pub fn table_checks(n: usize, table: &[u8]) -> Result<(), Refusal>
     requires { n ≤ 10 }
-    ensures { checked_of result ≡ first_of (table_checks n table.now) }
+    ensures { refused_by result ≡ first_of (table_checks n table.now) }
 {
-    let first = check_length(n, table);
-    let Checked::Accepted = first else {
-        return first;
-    };
+    check_length(n, table)?;
     check_bytes(table)
 }

@@ -1,7 +1,7 @@
 -- The input rules by examples: where checks 4 and 14 begin to apply, and which of several that apply is the answer.
 use mathlib.Core.Path.{◌≡◌, refl}
 use mathlib.Core.List.{List, [], ◌∷◌}
-use mathlib.Core.Option.{none, some}
+use Rattle.std.specs.Prelude.{None, Some}
 use Prim.Native.Nat.{ℕ}
 use lib.ListN.{set, replicate}
 use Rattle.hazard.specs.Search.{first_of}
@@ -14,13 +14,13 @@ ones1 = 1 ∷ 1 ∷ []
 pub empty_taken : Accepted 1 ones1 []
 empty_taken = refl
 
-pub odd_refused : first_of (input_checks 1 ones1 (0 ∷ [])) ≡ some (refusal 4 0 0)
+pub odd_refused : first_of (input_checks 1 ones1 (0 ∷ [])) ≡ Some (refusal 4 0 0)
 odd_refused = refl
 
-pub most_taken : list_check (replicate 128 0) ≡ none
+pub most_taken : list_check (replicate 128 0) ≡ None
 most_taken = refl
 
-pub more-refused : list_check (replicate 130 0) ≡ some (refusal 4 0 0)
+pub more-refused : list_check (replicate 130 0) ≡ Some (refusal 4 0 0)
 more-refused = refl
 
 -- A transition of five inputs is taken, on a table of 1s. One of six is refused, and of several the first is named.
@@ -30,19 +30,19 @@ ones6 = replicate 64 1
 pub five_taken : Accepted 6 ones6 (0 ∷ 31 ∷ [])
 five_taken = refl
 
-pub six_refused : first_of (input_checks 6 ones6 (0 ∷ 31 ∷ 0 ∷ 63 ∷ 1 ∷ 62 ∷ [])) ≡ some (refusal 14 1 0)
+pub six_refused : first_of (input_checks 6 ones6 (0 ∷ 31 ∷ 0 ∷ 63 ∷ 1 ∷ 62 ∷ [])) ≡ Some (refusal 14 1 0)
 six_refused = refl
 
 -- An end that is no point comes first, even after such a transition, or in it;
-pub outside-first : first_of (input_checks 6 ones6 (0 ∷ 63 ∷ 0 ∷ 64 ∷ [])) ≡ some (refusal 5 1 0)
+pub outside-first : first_of (input_checks 6 ones6 (0 ∷ 63 ∷ 0 ∷ 64 ∷ [])) ≡ Some (refusal 5 1 0)
 outside-first = refl
 
-pub outside_six : first_of (input_checks 6 ones6 (63 ∷ 64 ∷ [])) ≡ some (refusal 5 0 0)
+pub outside_six : first_of (input_checks 6 ones6 (63 ∷ 64 ∷ [])) ≡ Some (refusal 5 0 0)
 outside_six = refl
 
 -- a don't care comes later, and so does a function hazard, even before it.
-pub six_then_undefined : first_of (input_checks 6 (set ones6 1 2) (0 ∷ 1 ∷ 0 ∷ 63 ∷ [])) ≡ some (refusal 14 1 0)
+pub six_then_undefined : first_of (input_checks 6 (set ones6 1 2) (0 ∷ 1 ∷ 0 ∷ 63 ∷ [])) ≡ Some (refusal 14 1 0)
 six_then_undefined = refl
 
-pub six_then_hazard : first_of (input_checks 6 (set ones6 1 0) (0 ∷ 3 ∷ 0 ∷ 63 ∷ [])) ≡ some (refusal 14 1 0)
+pub six_then_hazard : first_of (input_checks 6 (set ones6 1 0) (0 ∷ 3 ∷ 0 ∷ 63 ∷ [])) ≡ Some (refusal 14 1 0)
 six_then_hazard = refl

@@ -3,7 +3,8 @@ use mathlib.Core.Path.{◌≡◌, refl, sym, ap, ◌∙◌}
 use mathlib.Core.Logic.{◌↔◌}
 use mathlib.Core.Bool.{Bool, ◌&&◌}
 use mathlib.Core.List.{List, map, map-append, Memᴰ}
-use mathlib.Core.Option.{Option, none, some, some-injective}
+use Rattle.std.specs.Prelude.{Option, None, Some}
+use Rattle.std.proofs.lemmas.Option.{same_Some}
 use Prim.Native.Nat.{ℕ, ◌^◌, ◌≤◌, ◌<◌}
 use native.Mathlib.Omega.{arith}
 use Rattle.hazard.specs.Search.{first_of}
@@ -23,10 +24,10 @@ use Rattle.hazard.proofs.Source.{required-ones}
 use Rattle.hazard.proofs.Single.{single_grown}
 
 -- A growth that ends blocked is refusal 10, and no other.
-pub block_none : (n : ℕ) (off : ℕ → Bool) (vs : List Privileged) (r : Required) → (block_check n off vs r ≡ none) ↔ Grown (grow n off vs r.cube)
+pub block_none : (n : ℕ) (off : ℕ → Bool) (vs : List Privileged) (r : Required) → (block_check n off vs r ≡ None) ↔ Grown (grow n off vs r.cube)
 block_none n off vs r = go (grow n off vs r.cube)
   where
-    go : (g : Growth) → (blocked_by r g ≡ none) ↔ Grown g
+    go : (g : Growth) → (blocked_by r g ≡ None) ↔ Grown g
     go (Legal c s) = (λ e. tt, λ t. refl)
     go (Blocked z s) = (λ e. none-some (sym e), λ t. absurd t)
 
@@ -42,19 +43,19 @@ module _ (n : ℕ) (f ts : List ℕ) where
       check = block_check n (off f) (privileged n f ts)
 
   -- so it never names the number of transitions.
-  pub block_transition : (q : Refusal) → blocking n f ts ≡ some q → q.transition < count ts
+  pub block_transition : (q : Refusal) → blocking n f ts ≡ Some q → q.transition < count ts
   block_transition q e =
       let (r, m, h) = first_of-some (block_check n (off f) (privileged n f ts)) (of_transitions n f ts) (sym blocking-transitions ∙ e) in
       let (k, x, l, u, d) = transition_e n f ts m in
       omega (arith, ap (λ (c : Required). c.transition) d, go r (grow n (off f) (privileged n f ts) r.cube) h)
     where
-      go : (r : Required) (g : Growth) → blocked_by r g ≡ some q → r.transition ≡ q.transition
+      go : (r : Required) (g : Growth) → blocked_by r g ≡ Some q → r.transition ≡ q.transition
       go r (Legal c s) h = none-some h
-      go r (Blocked z s) h = ap (λ (c : Refusal). c.transition) (some-injective _ _ h)
+      go r (Blocked z s) h = ap (λ (c : Refusal). c.transition) (same_Some _ _ h)
 
 module _ (n : ℕ) (f ts : List ℕ) (accepted : Accepted n f ts) where
   -- A required cube contains no zero, so one that blocks has taken at least one step; and at most n.
-  pub block_steps : (q : Refusal) → blocking n f ts ≡ some q → (1 ≤ q.steps) × (q.steps ≤ n)
+  pub block_steps : (q : Refusal) → blocking n f ts ≡ Some q → (1 ≤ q.steps) × (q.steps ≤ n)
   block_steps q e =
       let (r, m, h) = first_of-some (block_check n (off f) (privileged n f ts)) (required n f ts) e in
       let w = required-digits n f ts r m in
@@ -66,16 +67,16 @@ module _ (n : ℕ) (f ts : List ℕ) (accepted : Accepted n f ts) where
       wide : Wide n vs
       wide = privileged_wide n f ts
 
-      free : (r : Required) → Memᴰ r (required n f ts) → lowest_zero n (off f) r.cube ≡ none
+      free : (r : Required) → Memᴰ r (required n f ts) → lowest_zero n (off f) r.cube ≡ None
       free r m = none_first (λ x. has r.cube x && off f x) 0 (2 ^ n)
           (λ x a b t. let (h, o) = simp tests at t in omega (arith, required-ones n f ts accepted r m x (omega arith) h))
 
-      go : (r : Required) (g : Growth) → Grows n (off f) vs r.cube 0 g → steps g ≤ n → lowest_zero n (off f) r.cube ≡ none → blocked_by r g ≡ some q → (1 ≤ q.steps) × (q.steps ≤ n)
+      go : (r : Required) (g : Growth) → Grows n (off f) vs r.cube 0 g → steps g ≤ n → lowest_zero n (off f) r.cube ≡ None → blocked_by r g ≡ Some q → (1 ≤ q.steps) × (q.steps ≤ n)
       go r (Legal c s) u l k h = none-some h
-      go r (Blocked z s) u l k h = let e : s ≡ q.steps = ap (λ (x : Refusal). x.steps) (some-injective _ _ h) in (omega (arith, blocked_later n (off f) vs k u), omega arith)
+      go r (Blocked z s) u l k h = let e : s ≡ q.steps = ap (λ (x : Refusal). x.steps) (same_Some _ _ h) in (omega (arith, blocked_later n (off f) vs k u), omega arith)
 
   -- The cube that blocks is the first that does.
-  pub first-blocking : (q : Refusal) → blocking n f ts ≡ some q → FirstBlocking n f ts q
+  pub first-blocking : (q : Refusal) → blocking n f ts ≡ Some q → FirstBlocking n f ts q
   first-blocking q e =
       let s = first_of_split (block_check n (off f) (privileged n f ts)) (required n f ts) e in
       let (l, h) = block_steps q e in

@@ -4,7 +4,9 @@ use mathlib.Core.Logic.{inl, inr}
 use mathlib.Core.Bool.{Bool, true, false, not, ◌&&◌, ◌||◌}
 use mathlib.Core.List.Memᴰ
 use mathlib.Core.List.{List, [], ◌∷◌, ◌++◌, Memᴰ}
-use mathlib.Core.Option.{Option, none, some, map, some-injective, map-eq-some_iff}
+use Rattle.std.specs.Prelude.{Option, None, Some, option_map}
+use Rattle.std.proofs.lemmas.Option.{same_Some}
+use Rattle.hazard.proofs.Options.{map-eq-some_iff}
 use Prim.Native.Nat.{ℕ, ◌/◌, ◌%◌, ◌^◌, ◌*◌, ◌≤◌, ◌<◌}
 use native.Mathlib.Omega.{arith}
 use lib.Dec.{eqb, leb, ltb}
@@ -48,18 +50,18 @@ pub record BoundedFields (m : Fields) : Type 0 where
 -- What each check of a list finds has the property, where the checks before it find nothing.
 data Each (P : Refusal → Type 0) : List (Option Refusal) → Type 0 where
   tried : Each P []
-  next : {o : Option Refusal} {l : List (Option Refusal)} → ((q : Refusal) → o ≡ some q → P q) → (o ≡ none → Each P l) → Each P (o ∷ l)
+  next : {o : Option Refusal} {l : List (Option Refusal)} → ((q : Refusal) → o ≡ Some q → P q) → (o ≡ None → Each P l) → Each P (o ∷ l)
 
 -- So has what is found first.
-each_first : (P : Refusal → Type 0) {l : List (Option Refusal)} {q : Refusal} → Each P l → first_of l ≡ some q → P q
+each_first : (P : Refusal → Type 0) {l : List (Option Refusal)} {q : Refusal} → Each P l → first_of l ≡ Some q → P q
 each_first P tried e = none-some e
-each_first P (next {o = none} h t) e = each_first P (t refl) e
-each_first P {q = q} (next {o = some p} h t) e = h q e
+each_first P (next {o = None} h t) e = each_first P (t refl) e
+each_first P {q = q} (next {o = Some p} h t) e = h q e
 
-each_append : (P : Refusal → Type 0) {l m : List (Option Refusal)} → Each P l → (first_of l ≡ none → Each P m) → Each P (l ++ m)
+each_append : (P : Refusal → Type 0) {l m : List (Option Refusal)} → Each P l → (first_of l ≡ None → Each P m) → Each P (l ++ m)
 each_append P tried u = u refl
-each_append P (next {o = none} {l = l} h t) u = next h (λ e. each_append P (t refl) u)
-each_append P (next {o = some p} {l = l} h t) u = next h (λ e. none-some (sym e))
+each_append P (next {o = None} {l = l} h t) u = next h (λ e. each_append P (t refl) u)
+each_append P (next {o = Some p} {l = l} h t) u = next h (λ e. none-some (sym e))
 
 -- A label of a transition is a point.
 label-point : (n : ℕ) (f : List ℕ) (k : Kind) (a b : ℕ) {x : ℕ} → b < 2 ^ n → Memᴰ x (labels n f k a b) → x < 2 ^ n
@@ -93,20 +95,20 @@ module _ (n : ℕ) (f ts : List ℕ) (accepted : Accepted n f ts) where
       let (k, l, h, e) = privileged_e n f ts m in
       let t : k ≡ v.transition = ap (λ (q : Privileged). q.transition) e in omega arith
 
-  blocked_bounds : (q : Refusal) → blocking n f ts ≡ some q → Bounded 1 q
+  blocked_bounds : (q : Refusal) → blocking n f ts ≡ Some q → Bounded 1 q
   blocked_bounds q e =
       let (r, m, h) = first_of-some (block_check n (off f) (privileged n f ts)) (required n f ts) e in
       let w = required-digits n f ts r m in
       let vs = privileged_wide n f ts in
       go r (required_bounds r m) (grow n (off f) (privileged n f ts) r.cube) (grow-steps n (off f) (privileged n f ts) vs w) (grow_ends n (off f) (privileged n f ts) vs w) h
     where
-      go : (r : Required) → (r.transition ≤ count ts) × (r.label < 2 ^ n) → (g : Growth) → steps g ≤ n → Ends n (off f) (privileged n f ts) r.cube g → blocked_by r g ≡ some q → Bounded 1 q
+      go : (r : Required) → (r.transition ≤ count ts) × (r.label < 2 ^ n) → (g : Growth) → steps g ≤ n → Ends n (off f) (privileged n f ts) r.cube g → blocked_by r g ≡ Some q → Bounded 1 q
       go r b (Legal c s) l u h = none-some h
       go r b (Blocked z s) l (blocked i k z< d o) h =
           let few = (few-inputs n f ts accepted).1 in
           let all = points_few few in
           let ends = (list_length n f ts accepted).1 in
-          subst (Bounded 1) (some-injective _ _ h)
+          subst (Bounded 1) (same_Some _ _ h)
           (record { number-low = omega arith; number = omega arith; transition = omega (arith, b.0); point = omega (arith, b.1); steps = omega arith; lowest = omega arith; product = omega arith })
 
   -- A minimal network has no more products than there can be required cubes.
@@ -118,17 +120,17 @@ named : {most k t x : ℕ} → 1 ≤ most → 1 ≤ k → k < 32 → t ≤ 64 �
 named p a b c d = record { number-low = a; number = b; transition = c; point = d; steps = omega arith; lowest = omega arith; product = p }
 
 -- by a test,
-test_bounds : {most : ℕ} → 1 ≤ most → (b : Bool) (k : ℕ) → 1 ≤ k → k < 32 → (q : Refusal) → refuse_if b k ≡ some q → Bounded most q
-test_bounds {most} p true k l m q e = subst (Bounded most) (some-injective _ _ e) (named p l m (omega arith) (omega arith))
+test_bounds : {most : ℕ} → 1 ≤ most → (b : Bool) (k : ℕ) → 1 ≤ k → k < 32 → (q : Refusal) → refuse_if b k ≡ Some q → Bounded most q
+test_bounds {most} p true k l m q e = subst (Bounded most) (same_Some _ _ e) (named p l m (omega arith) (omega arith))
 test_bounds p false k l m q e = none-some e
 
 -- by a search,
-search_bounds : {A : Type 0} {most : ℕ} (g : A → Refusal) (o : Option A) → ((a : A) → o ≡ some a → Bounded most (g a)) → (q : Refusal) → map g o ≡ some q → Bounded most q
+search_bounds : {A : Type 0} {most : ℕ} (g : A → Refusal) (o : Option A) → ((a : A) → o ≡ Some a → Bounded most (g a)) → (q : Refusal) → option_map g o ≡ Some q → Bounded most q
 search_bounds {A} {most} g o h q e = let (a, s, i) = (map-eq-some_iff g o).0 e in subst (Bounded most) i (h a s)
 
 -- by a search for a transition and a point of it.
 place_bounds : {most size all : ℕ} → 1 ≤ most → size ≤ 64 → all ≤ 1024 → (k : ℕ) → 1 ≤ k → k < 32 → (test : ℕ → ℕ → Bool) (q : Refusal)
-    → map (λ (p : ℕ × ℕ). refusal k p.0 p.1) (first_place (λ t. first (test t) 0 all) 0 size) ≡ some q → Bounded most q
+    → option_map (λ (p : ℕ × ℕ). refusal k p.0 p.1) (first_place (λ t. first (test t) 0 all) 0 size) ≡ Some q → Bounded most q
 place_bounds {most} {size} {all} p few small k a b test =
     search_bounds (λ (p : ℕ × ℕ). refusal k p.0 p.1) (first_place (λ t. first (test t) 0 all) 0 size) (λ i s.
     let (l, m, h) = place-some (λ t. first (test t) 0 all) 0 size s in
@@ -136,7 +138,7 @@ place_bounds {most} {size} {all} p few small k a b test =
 
 -- What a check finds is bounded: a law for each check, by its name.
 abbrev Finds : ℕ → Option Refusal → Type 0
-Finds most o = (q : Refusal) → o ≡ some q → Bounded most q
+Finds most o = (q : Refusal) → o ≡ Some q → Bounded most q
 
 module _ {most : ℕ} (p : 1 ≤ most) (n : ℕ) where
   inputs_bounds : Finds most (inputs_check n)
@@ -197,7 +199,7 @@ module _ (n : ℕ) (f ts : List ℕ) where
       next (many_bounds p n f ts) (λ c8. tried)))))))))
 
   -- A refusal of the minimiser.
-  pub minimiser_bounds : (room : ℕ) {q : Refusal} → first_of (minimiser_checks n f ts room) ≡ some q → Bounded 1 q
+  pub minimiser_bounds : (room : ℕ) {q : Refusal} → first_of (minimiser_checks n f ts room) ≡ Some q → Bounded 1 q
   minimiser_bounds room e =
       each_first (Bounded 1)
       (each_append (Bounded 1) (input_bounds (omega arith)) (λ a.
@@ -205,11 +207,11 @@ module _ (n : ℕ) (f ts : List ℕ) where
 
   module _ (bytes : List ℕ) where
     -- What check 11 lets through has no more products than the limit.
-    pub products-few : products_check n bytes ≡ none → length (products n bytes) ≤ most_products
+    pub products-few : products_check n bytes ≡ None → length (products n bytes) ≤ most_products
     products-few e = omega (arith, products-length n bytes, (products_fit n bytes e).1)
 
     -- A refusal of the verifier.
-    pub verifier_bounds : {q : Refusal} → first_of (verifier_checks n f ts bytes) ≡ some q → Bounded most_products q
+    pub verifier_bounds : {q : Refusal} → first_of (verifier_checks n f ts bytes) ≡ Some q → Bounded most_products q
     verifier_bounds e =
         each_first (Bounded most_products)
         (each_append (Bounded most_products) (input_bounds (omega arith)) (λ a.
@@ -231,8 +233,8 @@ module _ (n : ℕ) (f ts : List ℕ) where
             let (b, c) = required_bounds n f ts a r m in
             small (omega arith) (omega arith) (omega (arith, (list_length n f ts a).1)) (omega (arith, points_few (few-inputs n f ts a).1))
 
-        go : (o : Option Refusal) → first_of (verifier_checks n f ts bytes) ≡ o → BoundedFields (fields_of (elim o [ some q ↦ refused q | none ↦ fault n f ts (products n bytes) ]))
-        go (some q) e = let b = verifier_bounds e in record { number = omega arith; refusal = b.number; product = b.product; transition = b.transition; point = b.point }
-        go none e =
+        go : (o : Option Refusal) → first_of (verifier_checks n f ts bytes) ≡ o → BoundedFields (fields_of (elim o [ Some q ↦ refused q | None ↦ fault n f ts (products n bytes) ]))
+        go (Some q) e = let b = verifier_bounds e in record { number = omega arith; refusal = b.number; product = b.product; transition = b.transition; point = b.point }
+        go None e =
             let rest = ((first_of-append (input_checks n f ts) (network_checks n bytes)).0 e).1 in
             judged (checked_accepted n f ts bytes e) (products-few (first_of-none (network_checks n bytes) rest (search entries))) (fault_named n f ts (products n bytes))

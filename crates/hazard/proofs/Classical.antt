@@ -5,7 +5,7 @@ use mathlib.Core.Logic.{◌≢◌, ◌↔◌, inl, inr}
 use mathlib.Core.Bool.{Bool, false, not, ◌&&◌, ◌||◌, and-true}
 use mathlib.Core.List.Memᴰ
 use mathlib.Core.List.{List, [], ◌∷◌, ◌++◌, Memᴰ}
-use mathlib.Core.Option.{Option, none, some, map}
+use Rattle.std.specs.Prelude.{Option, None, Some, option_map}
 use Prim.Native.Nat.{ℕ, ◌*◌, ◌^◌, ◌≤◌, ◌<◌}
 use native.Mathlib.Omega.{arith}
 use native.Mathlib.Nat.{not-suc-le-zero, mul-zero}
@@ -102,7 +102,7 @@ module _ (n : ℕ) (f : List ℕ) where
   required_points = ap (single_points n 0) (fun_ext (λ x. and-true (on f x)))
 
   -- so nothing blocks.
-  pub nothing_blocks : blocking n f [] ≡ none
+  pub nothing_blocks : blocking n f [] ≡ None
   nothing_blocks = blocking-transitions n f []
 
   -- Entry by entry.
@@ -157,20 +157,20 @@ module _ (n : ℕ) (f : List ℕ) where
   function_checks_lem = many_never n f [] ∙ first_of-rest (function_checks n f) (list_checks n [] ++ points_checks n f []) refl
 
   -- which let through exactly a table of 1 to 10 inputs with a value for each point;
-  pub function_taken : (first_of (function_checks n f) ≡ none) ↔ ((1 ≤ n) × (n ≤ 10) × (length f ≡ 2 ^ n) × ((x : ℕ) → value f x ≤ 2))
+  pub function_taken : (first_of (function_checks n f) ≡ None) ↔ ((1 ≤ n) × (n ≤ 10) × (length f ≡ 2 ^ n) × ((x : ℕ) → value f x ≤ 2))
   function_taken = (
     λ e. let (low, high) = inputs-few n (passes e (search entries)) in (low, high, length_whole n f (passes e (search entries)), bytes-few f (passes e (search entries))),
     λ (low, high, whole, values). rw (few low high, ap (λ (b : Bool). refuse_if (not b) 2) (is {b = eqb (length f) (2 ^ n)} (eqb_of whole)), below values),
   )
     where
-      passes : {o : Option Refusal} → first_of (function_checks n f) ≡ none → Memᴰ o (function_checks n f) → o ≡ none
+      passes : {o : Option Refusal} → first_of (function_checks n f) ≡ None → Memᴰ o (function_checks n f) → o ≡ None
       passes e = first_of-none (function_checks n f) e
 
-      few : 1 ≤ n → n ≤ 10 → inputs_check n ≡ none
+      few : 1 ≤ n → n ≤ 10 → inputs_check n ≡ None
       few low high = ap (λ (b : Bool). refuse_if b 1) (isnt (eqb n 0 || ltb 10 n) (λ t. elim (or_e (eqb n 0) (ltb 10 n) t) [ inl u ↦ omega (arith, eqb→eq n 0 u) | inr u ↦ omega (arith, ltb→lt 10 n u) ]))
 
-      below : ((x : ℕ) → value f x ≤ 2) → bytes_check f ≡ none
-      below values = ap (map (λ x. refusal 3 0 x)) (none_first (λ x. ltb 2 (value f x)) 0 (length f) (λ x l m t. omega (arith, ltb→lt 2 (value f x) t, values x)))
+      below : ((x : ℕ) → value f x ≤ 2) → bytes_check f ≡ None
+      below values = ap (option_map (λ x. refusal 3 0 x)) (none_first (λ x. ltb 2 (value f x)) 0 (length f) (λ x l m t. omega (arith, ltb→lt 2 (value f x) t, values x)))
 
   -- and of the minimiser's checks only 9 beside them.
   pub cover-checks : (room : ℕ) → first_of (minimiser_checks n f [] room) ≡ first_of (cover_checks n f room)
@@ -188,23 +188,23 @@ module _ (n : ℕ) (f : List ℕ) where
   -- Nothing is met illegally, and the first required cube in no product is the lowest 1 missed.
   pub fault_classical : (net : Network) → WellFormed n net → fault n f [] net ≡ classical_fault n f net
   fault_classical net w =
-      ap (λ (c : Option (ℕ × ℕ)). first_fault (fault_a n (off f) net) c (fault_b (required n f []) net)) ((place_none (λ j. none) 0 (length net)).1 (λ j l m. refl))
-      ∙ ap (first_fault (fault_a n (off f) net) none) left
+      ap (λ (c : Option (ℕ × ℕ)). first_fault (fault_a n (off f) net) c (fault_b (required n f []) net)) ((place_none (λ j. None) 0 (length net)).1 (λ j l m. refl))
+      ∙ ap (first_fault (fault_a n (off f) net) None) left
       ∙ cases (fault_a n (off f) net) (missed n f net)
     where
       points : (x : ℕ) → (on f x && not (covered net (span n x x))) ≡ (on f x && not (gives net x))
       points x = let c = covered-point n net (well_formed→ w) x in ap (λ (b : Bool). on f x && not b) (bool_ext (covered net (span n x x)) (gives net x) c.0 c.1)
 
-      left : fault_b (required n f []) net ≡ map (point_at n []) (missed n f net)
+      left : fault_b (required n f []) net ≡ option_map (point_at n []) (missed n f net)
       left =
           ap (λ (rs : List Required). fault_b rs net) required_points
           ∙ find-those (on f) (λ (r : Required). not (covered net r.cube)) (point_at n []) 0 (2 ^ n)
-          ∙ ap (map (point_at n [])) (first-same (λ x. on f x && not (covered net (span n x x))) (λ x. on f x && not (gives net x)) 0 (2 ^ n) (λ x l m. points x))
+          ∙ ap (option_map (point_at n [])) (first-same (λ x. on f x && not (covered net (span n x x))) (λ x. on f x && not (gives net x)) 0 (2 ^ n) (λ x l m. points x))
 
-      cases : (a : Option (ℕ × ℕ)) (b : Option ℕ) → first_fault a none (map (point_at n []) b) ≡ elim a [ some p ↦ holds_zero p.0 p.1 | none ↦ elim b [ some x ↦ uncovered 0 x | none ↦ passed ] ]
-      cases (some p) b = refl
-      cases none (some x) = refl
-      cases none none = refl
+      cases : (a : Option (ℕ × ℕ)) (b : Option ℕ) → first_fault a None (option_map (point_at n []) b) ≡ elim a [ Some p ↦ holds_zero p.0 p.1 | None ↦ elim b [ Some x ↦ uncovered 0 x | None ↦ passed ] ]
+      cases (Some p) b = refl
+      cases None (Some x) = refl
+      cases None None = refl
 
   -- The minimiser's whole promise,
   pub minimised_classical : {before after : List ℕ} {r : Minimised} → Promise n f [] before after r → ClassicalPromise n f before after r
@@ -219,14 +219,14 @@ module _ (n : ℕ) (f : List ℕ) where
       }
 
   -- which for a table without a 1 is no product, into a buffer of any length, also 0,
-  pub minimised_nothing : {before after : List ℕ} {r : Minimised} → Promise n f [] before after r → first_of (function_checks n f) ≡ none
+  pub minimised_nothing : {before after : List ℕ} {r : Minimised} → Promise n f [] before after r → first_of (function_checks n f) ≡ None
       → ((x : ℕ) → value f x ≢ 1) → (r ≡ written 0) × (after ≡ before)
   minimised_nothing {before} {after} {r} p e no_one = go ((minimised_classical p).network (first_of-right (function_checks n f) (refuse_if (ltb (length before) (n * length (those (on f) 0 (2 ^ n)))) 9 ∷ []) e ∙ room))
     where
       size : n * length (those (on f) 0 (2 ^ n)) ≡ 0
       size = rw (those-none (on f) 0 (2 ^ n) (λ x t. no_one x (eqb→eq (value f x) 1 t)), mul-zero n)
 
-      room : first_of (refuse_if (ltb (length before) (n * length (those (on f) 0 (2 ^ n)))) 9 ∷ []) ≡ none
+      room : first_of (refuse_if (ltb (length before) (n * length (those (on f) 0 (2 ^ n)))) 9 ∷ []) ≡ None
       room = ap (λ (b : Bool). first_of (refuse_if b 9 ∷ [])) (le-ltb (length before) (n * length (those (on f) 0 (2 ^ n))) (omega (arith, size)))
 
       go : (net : Network) × (r ≡ written (length net)) × IrredundantCover n f net × T (ascending net) × (after ≡ bytes_of net ++ drop (n * length net) before) → (r ≡ written 0) × (after ≡ before)
@@ -245,8 +245,8 @@ module _ (n : ℕ) (f : List ℕ) where
       }
     where
       judgement : Option Refusal → Verdict
-      judgement o = elim o [ some q ↦ refused q | none ↦ classical_fault n f (products n bytes) ]
+      judgement o = elim o [ Some q ↦ refused q | None ↦ classical_fault n f (products n bytes) ]
 
-      same : (o : Option Refusal) → first_of (verifier_checks n f [] bytes) ≡ o → ◌≡◌ {A = Verdict} (elim o [ some q ↦ refused q | none ↦ fault n f [] (products n bytes) ]) (judgement o)
-      same (some q) e = refl
-      same none e = fault_classical (products n bytes) (checked_well_formed n f [] bytes e)
+      same : (o : Option Refusal) → first_of (verifier_checks n f [] bytes) ≡ o → ◌≡◌ {A = Verdict} (elim o [ Some q ↦ refused q | None ↦ fault n f [] (products n bytes) ]) (judgement o)
+      same (Some q) e = refl
+      same None e = fault_classical (products n bytes) (checked_well_formed n f [] bytes e)

@@ -4,7 +4,7 @@ use mathlib.Core.Logic.{inl, inr}
 use mathlib.Core.Bool.{Bool, not, ◌&&◌}
 use mathlib.Core.List.Memᴰ
 use mathlib.Core.List.{List, [], ◌∷◌, ◌++◌, map, Memᴰ}
-use mathlib.Core.Option.{Option, none, some}
+use Rattle.std.specs.Prelude.{Option, None, Some}
 use Prim.Native.Nat.{ℕ, zero, suc, ◌≤◌, ◌<◌}
 use native.Mathlib.Omega.{arith}
 use lib.Dec.{T}
@@ -73,8 +73,8 @@ found_e : {A : Type 0} (test : A → Bool) (l : List A) → T (found (find test 
 found_e {A} test l = go (find test l) (find-is test l)
   where
     go : (o : Option A) → Find test l o → T (found o) → (a : A) × Memᴰ a l × T (test a)
-    go none v t = absurd t
-    go (some a) (hit m u _) t = (a, m, u)
+    go None v t = absurd t
+    go (Some a) (hit m u _) t = (a, m, u)
 
 lacking : {A : Type 0} (test : A → Bool) (l : List A) → ¬ T (found (find test l)) → (a : A) → Memᴰ a l → ¬ T (test a)
 lacking test l t = (find_none test l).0 (not_found t)

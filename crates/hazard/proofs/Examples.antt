@@ -3,7 +3,7 @@ use mathlib.Core.Path.{◌≡◌, refl, sym, subst⁻¹}
 use mathlib.Core.Bool.{true, false, cond}
 use mathlib.Core.List.Memᴰ
 use mathlib.Core.List.{List, [], ◌∷◌, map}
-use mathlib.Core.Option.{none}
+use Rattle.std.specs.Prelude.{None}
 use Prim.Native.Nat.{ℕ}
 use native.Mathlib.Omega.{arith}
 use lib.Dec.{T, leb}
@@ -159,5 +159,5 @@ not-prime =
 abbrev table_n : List ℕ
 table_n = 0 ∷ 2 ∷ 2 ∷ 0 ∷ []
 
-pub no_product : (first_of (cover_checks 2 table_n 0) ≡ none) × IrredundantCover 2 table_n []
+pub no_product : (first_of (cover_checks 2 table_n 0) ≡ None) × IrredundantCover 2 table_n []
 no_product = (refl, ((minimal_irredundant 2 table_n [] refl).0 (essential_minimal 2 table_n [] refl [] tt)).0)

@@ -2,7 +2,7 @@
 use mathlib.Core.Path.{◌≡◌, refl, sym, ap, ◌∙◌}
 use mathlib.Core.Bool.{Bool}
 use mathlib.Core.List.{List, [], ◌∷◌, ◌++◌, Memᴰ}
-use mathlib.Core.Option.{Option, none, some}
+use Rattle.std.specs.Prelude.{Option, None, Some}
 use Prim.Native.Nat.{ℕ, zero, suc, ◌+◌, ◌*◌, ◌^◌, ◌≤◌, ◌<◌}
 use native.Mathlib.Omega.{arith}
 use lib.ListN.{length, length-append, length-map}
@@ -57,11 +57,11 @@ rule_checks n f ts = (inputs_check n ∷ []) ++ (table_checks n f ++ (list_check
 
 module _ (n : ℕ) (f ts : List ℕ) where
   -- What they let through has no more required cubes than the limit,
-  rules_few : first_of (rule_checks n f ts) ≡ none → length (required n f ts) ≤ most_required
+  rules_few : first_of (rule_checks n f ts) ≡ None → length (required n f ts) ≤ most_required
   rules_few e =
       all_few n f ts (bursts_narrow n ts (passes (search entries depth 20))) (inputs-few n (passes (search entries depth 20))).1 (list_few ts (passes (search entries depth 20))).1
     where
-      passes : {o : Option Refusal} → Memᴰ o (rule_checks n f ts) → o ≡ none
+      passes : {o : Option Refusal} → Memᴰ o (rule_checks n f ts) → o ≡ None
       passes = first_of-none (rule_checks n f ts) e
 
   -- so check 8 finds nothing, and the first of the input rules that applies is the first of those before it.
@@ -69,8 +69,8 @@ module _ (n : ℕ) (f ts : List ℕ) where
   many_never = go (first_of (rule_checks n f ts)) refl
     where
       go : (o : Option Refusal) → first_of (rule_checks n f ts) ≡ o → first_of (input_checks n f ts) ≡ o
-      go (some q) e = first_of-left (rule_checks n f ts) (many_check n f ts ∷ []) e
-      go none e =
+      go (Some q) e = first_of-left (rule_checks n f ts) (many_check n f ts ∷ []) e
+      go None e =
           first_of-right (rule_checks n f ts) (many_check n f ts ∷ []) e
           ∙ ap (λ (b : Bool). first_of (refuse_if b 8 ∷ [])) (le-ltb most_required (length (required n f ts)) (rules_few e))
 

@@ -2,7 +2,7 @@
 use mathlib.Core.Path.{◌≡◌, refl, subst}
 use mathlib.Core.Bool.{Bool}
 use mathlib.Core.List.{List}
-use mathlib.Core.Option.{Option, none, some}
+use Rattle.std.specs.Prelude.{Option, None, Some}
 use Prim.Native.Nat.{ℕ, zero, suc, ◌+◌, ◌^◌, ◌≤◌, ◌<◌}
 use native.Mathlib.Omega.{arith}
 use lib.Dec.{T}
@@ -17,9 +17,9 @@ use Rattle.hazard.proofs.Implicant.{Closed, Dhf, Wide, Zero, clean, zero', zero_
 module _ (n : ℕ) (off : ℕ → Bool) (vs : List Privileged) where
   -- Growth without fuel.
   pub data Grows : Cube → ℕ → Growth → Type 0 where
-    stop : {c : Cube} {z s : ℕ} → lowest_zero n off c ≡ some z → Grows c s (Blocked z s)
-    done : {c : Cube} {s : ℕ} → lowest_zero n off c ≡ none → find (illegal c) vs ≡ none → Grows c s (Legal c s)
-    step : {c : Cube} {s : ℕ} {v : Privileged} {g : Growth} → lowest_zero n off c ≡ none → find (illegal c) vs ≡ some v → Grows (join c v.start) (suc s) g → Grows c s g
+    stop : {c : Cube} {z s : ℕ} → lowest_zero n off c ≡ Some z → Grows c s (Blocked z s)
+    done : {c : Cube} {s : ℕ} → lowest_zero n off c ≡ None → find (illegal c) vs ≡ None → Grows c s (Legal c s)
+    step : {c : Cube} {s : ℕ} {v : Privileged} {g : Growth} → lowest_zero n off c ≡ None → find (illegal c) vs ≡ Some v → Grows (join c v.start) (suc s) g → Grows c s g
 
   -- It ends one way only.
   pub grows_once : {c : Cube} {s : ℕ} {g h : Growth} → Grows c s g → Grows c s h → g ≡ h
@@ -39,7 +39,7 @@ module _ (n : ℕ) (off : ℕ → Bool) (vs : List Privileged) where
   grows_more (done e d) = omega arith
   grows_more (step e d r) = omega (arith, grows_more r)
 
-  pub blocked_later : {c : Cube} {s z t : ℕ} → lowest_zero n off c ≡ none → Grows c s (Blocked z t) → s < t
+  pub blocked_later : {c : Cube} {s z t : ℕ} → lowest_zero n off c ≡ None → Grows c s (Blocked z t) → s < t
   blocked_later q (stop e) = let y : ◌≡◌ {A = ℕ} 0 1 = cc in absurd (omega arith)
   blocked_later q (step e d r) = grows_more r
 
@@ -61,39 +61,39 @@ module _ (n : ℕ) (off : ℕ → Bool) (vs : List Privileged) where
     pub runs : (fuel : ℕ) {c : Cube} (s : ℕ) → Digits n c → fixed c ≤ fuel → Grows c s (grow_from n off vs fuel c s)
     runs zero {c} s w l = go (lowest_zero n off c) refl
       where
-        all : (r : Option Privileged) → Meeting vs c r → r ≡ none
-        all none m = refl
-        all (some v) (illegally m i) = absurd (i.lacks (none-fixed c l v.start))
+        all : (r : Option Privileged) → Meeting vs c r → r ≡ None
+        all None m = refl
+        all (Some v) (illegally m i) = absurd (i.lacks (none-fixed c l v.start))
 
-        go : (r : Option ℕ) → lowest_zero n off c ≡ r → Grows c s (elim r [ some z ↦ Blocked z s | none ↦ Legal c s ])
-        go (some z) e = stop e
-        go none e = done e (all (find (illegal c) vs) (meeting_is n off vs wide w))
+        go : (r : Option ℕ) → lowest_zero n off c ≡ r → Grows c s (elim r [ Some z ↦ Blocked z s | None ↦ Legal c s ])
+        go (Some z) e = stop e
+        go None e = done e (all (find (illegal c) vs) (meeting_is n off vs wide w))
     runs (suc fuel) {c} s w l = go (lowest_zero n off c) refl (λ v m. runs fuel (suc s) (join-digits v.start w) m)
       where
         Next : Type 0
         Next = (v : Privileged) → fixed (join c v.start) ≤ fuel → Grows (join c v.start) (suc s) (grow_from n off vs fuel (join c v.start) (suc s))
 
-        more : (r : Option Privileged) → lowest_zero n off c ≡ none → find (illegal c) vs ≡ r → Meeting vs c r → Next
-            → Grows c s (elim r [ some v ↦ grow_from n off vs fuel (join c v.start) (suc s) | none ↦ Legal c s ])
-        more none e d m next = done e d
-        more (some v) e d (illegally m i) next = step e d (next v (omega (arith, join_less c v.start i.lacks)))
+        more : (r : Option Privileged) → lowest_zero n off c ≡ None → find (illegal c) vs ≡ r → Meeting vs c r → Next
+            → Grows c s (elim r [ Some v ↦ grow_from n off vs fuel (join c v.start) (suc s) | None ↦ Legal c s ])
+        more None e d m next = done e d
+        more (Some v) e d (illegally m i) next = step e d (next v (omega (arith, join_less c v.start i.lacks)))
 
         go : (r : Option ℕ) → lowest_zero n off c ≡ r → Next
-            → Grows c s (elim r [ some z ↦ Blocked z s | none ↦ elim (find (illegal c) vs) [ some v ↦ grow_from n off vs fuel (join c v.start) (suc s) | none ↦ Legal c s ] ])
-        go (some z) e next = stop e
-        go none e next = more (find (illegal c) vs) e refl (meeting_is n off vs wide w) next
+            → Grows c s (elim r [ Some z ↦ Blocked z s | None ↦ elim (find (illegal c) vs) [ Some v ↦ grow_from n off vs fuel (join c v.start) (suc s) | None ↦ Legal c s ] ])
+        go (Some z) e next = stop e
+        go None e next = more (find (illegal c) vs) e refl (meeting_is n off vs wide w) next
 
-    least_step : {c : Cube} {v : Privileged} → Meeting vs c (some v) → Least c (join c v.start)
+    least_step : {c : Cube} {v : Privileged} → Meeting vs c (Some v) → Least c (join c v.start)
     least_step {c} {v} (illegally m i) q l j = join_least j (l v m i.shared (inside-has j i.mine) i.its)
 
     pub ends : {c : Cube} {s : ℕ} {g : Growth} → Digits n c → Grows c s g → Ends c g
     ends w (stop {c = c} {z = z} e) = go (subst (Zero n off c) e (zero_is n off c))
       where
-        go : {s : ℕ} → Zero n off c (some z) → Ends c (Blocked z s)
+        go : {s : ℕ} → Zero n off c (Some z) → Ends c (Blocked z s)
         go (zero' b h o) = blocked (inside_refl c) (λ q a b. b) b h o
     ends w (done {c = c} e d) = go (subst (Zero n off c) e (zero_is n off c)) (subst (Meeting vs c) d (meeting_is n off vs wide w))
       where
-        go : {s : ℕ} → Zero n off c none → Meeting vs c none → Ends c (Legal c s)
+        go : {s : ℕ} → Zero n off c None → Meeting vs c None → Ends c (Legal c s)
         go (clean h) (closed k) = legal (record { digits = w; clean = h; closed = k }) (inside_refl c) (λ q a b. b)
     ends w (step {c = c} {v = v} e d r) =
         ends_back (inside-join c v.start) (least_step (subst (Meeting vs c) d (meeting_is n off vs wide w))) (ends (join-digits v.start w) r)
@@ -104,7 +104,7 @@ module _ (n : ℕ) (off : ℕ → Bool) (vs : List Privileged) where
     grows_steps w (step {c = c} {s = s} {v = v} {g = g} e d r) =
         omega (arith, less (subst (Meeting vs c) d (meeting_is n off vs wide w)), grows_steps (join-digits v.start w) r)
       where
-        less : Meeting vs c (some v) → fixed (join c v.start) < fixed c
+        less : Meeting vs c (Some v) → fixed (join c v.start) < fixed c
         less (illegally m i) = join_less c v.start i.lacks
 
     -- Any two fuels that are enough give the same.

@@ -2,7 +2,7 @@
 use mathlib.Core.Logic.{◌↔◌}
 use mathlib.Core.Bool.{Bool, not, ◌&&◌}
 use mathlib.Core.List.{List, Memᴰ}
-use mathlib.Core.Option.{Option, none, some}
+use Rattle.std.specs.Prelude.{Option, None, Some}
 use Prim.Native.Nat.{ℕ, ◌^◌, ◌<◌}
 use native.Mathlib.Omega.{arith}
 use lib.Dec.{T}
@@ -49,19 +49,19 @@ abbrev pub Wide : ℕ → List Privileged → Type 0
 Wide n vs = (v : Privileged) → Memᴰ v vs → Digits n v.cube
 
 pub data Zero (n : ℕ) (off : ℕ → Bool) (c : Cube) : Option ℕ → Type 0 where
-  clean : Clean n off c → Zero n off c none
-  zero' : {z : ℕ} → z < 2 ^ n → Has c z → T (off z) → Zero n off c (some z)
+  clean : Clean n off c → Zero n off c None
+  zero' : {z : ℕ} → z < 2 ^ n → Has c z → T (off z) → Zero n off c (Some z)
 
 pub zero_is : (n : ℕ) (off : ℕ → Bool) (c : Cube) → Zero n off c (lowest_zero n off c)
 zero_is n off c = go (lowest_zero n off c) (first-is (λ x. has c x && off x) 0 (2 ^ n))
   where
     go : (r : Option ℕ) → First (λ x. has c x && off x) 0 (2 ^ n) r → Zero n off c r
-    go none (nowhere h) = clean (λ x l o k. h x (omega arith) (omega arith) (simp T_and (→has k, o)))
-    go (some z) (lowest t l m h) = let (i, j) = simp T_and at t in zero' {z = z} (omega arith) (has→ c z i) j
+    go None (nowhere h) = clean (λ x l o k. h x (omega arith) (omega arith) (simp T_and (→has k, o)))
+    go (Some z) (lowest t l m h) = let (i, j) = simp T_and at t in zero' {z = z} (omega arith) (has→ c z i) j
 
 pub data Meeting (vs : List Privileged) (c : Cube) : Option Privileged → Type 0 where
-  closed : Closed vs c → Meeting vs c none
-  illegally : {v : Privileged} → Memᴰ v vs → Illegal c v → Meeting vs c (some v)
+  closed : Closed vs c → Meeting vs c None
+  illegally : {v : Privileged} → Memᴰ v vs → Illegal c v → Meeting vs c (Some v)
 
 -- A dhf-prime, by points.
 pub record Prime (n : ℕ) (off : ℕ → Bool) (vs : List Privileged) (p : Cube) : Type 0 where
@@ -73,20 +73,20 @@ module _ (n : ℕ) (off : ℕ → Bool) (vs : List Privileged) (wide : Wide n vs
   meeting_is {c} w = go (find (illegal c) vs) (find-is (illegal c) vs)
     where
       go : (r : Option Privileged) → Find (illegal c) vs r → Meeting vs c r
-      go none (missing h) = closed (λ v m x i j. elim (has_dec c v.start) [
+      go None (missing h) = closed (λ v m x i j. elim (has_dec c v.start) [
         | yes y ↦ y
         | no y ↦ absurd (h v m (→illegal {v = v} w (wide v m) (record { shared = x; mine = i; its = j; lacks = y })))
       ])
-      go (some v) (hit m t _) = illegally m (illegal→ {v = v} w (wide v m) t)
+      go (Some v) (hit m t _) = illegally m (illegal→ {v = v} w (wide v m) t)
 
   -- The test and its meaning.
   pub dhf-is : {c : Cube} → Digits n c → T (dhf_implicant n off vs c) ↔ Dhf n off vs c
   dhf-is {c} w = go (lowest_zero n off c) (zero_is n off c) (find (illegal c) vs) (meeting_is w)
     where
       go : (z : Option ℕ) → Zero n off c z → (v : Option Privileged) → Meeting vs c v → T (not (found z) && not (found v)) ↔ Dhf n off vs c
-      go none (clean h) none (closed k) = (λ t. record { digits = w; clean = h; closed = k }, λ d. tt)
-      go none (clean h) (some v) (illegally m i) = (λ t. absurd t, λ d. i.lacks (d.closed v m i.shared i.mine i.its))
-      go (some z) (zero' b h o) v m = (λ t. absurd t, λ d. d.clean z b o h)
+      go None (clean h) None (closed k) = (λ t. record { digits = w; clean = h; closed = k }, λ d. tt)
+      go None (clean h) (Some v) (illegally m i) = (λ t. absurd t, λ d. i.lacks (d.closed v m i.shared i.mine i.its))
+      go (Some z) (zero' b h o) v m = (λ t. absurd t, λ d. d.clean z b o h)
 
   pub prime-is : (p : Cube) → DhfPrime n off vs p ↔ Prime n off vs p
   prime-is p = (

@@ -1,6 +1,7 @@
 -- Tests, searches, cubes and points.
 pub mod Test
 pub mod Search
+pub mod Options
 pub mod Counting
 pub mod Digit
 pub mod Cube

@@ -6,7 +6,7 @@ use mathlib.Core.Bool.{not}
 use mathlib.Core.List.Memᴰ
 use mathlib.Core.List.Pairwise
 use mathlib.Core.List.{List, [], ◌∷◌, Memᴰ, Mem, Nodup}
-use mathlib.Core.Option.{Option, none, some}
+use Rattle.std.specs.Prelude.{Option, None, Some}
 use Prim.Native.Nat.{ℕ, zero, suc, ◌≤◌}
 use native.Mathlib.Omega.{arith}
 use lib.Dec.{T}
@@ -81,7 +81,7 @@ irredundant-few rs (p ∷ net) h =
 
 module _ (n : ℕ) (f ts : List ℕ) where
   -- No required cube blocks exactly if there is a hazard-free cover.
-  pub cover-iff : (blocking n f ts ≡ none) ↔ ((net : Network) × WellFormed n net × HazardFreeCover n f ts net)
+  pub cover-iff : (blocking n f ts ≡ None) ↔ ((net : Network) × WellFormed n net × HazardFreeCover n f ts net)
   cover-iff =
       let b = first_of-map (block_check n (off f) (privileged n f ts)) (required n f ts) in
       let c = cover_exists n (off f) (required n f ts) (privileged n f ts) (privileged_wide n f ts) (required-digits n f ts) in
@@ -89,7 +89,7 @@ module _ (n : ℕ) (f ts : List ℕ) where
 
   module _ (accepted : Accepted n f ts) where
     -- No required cube blocks exactly if there is a hazard-free network, of any size.
-    pub exists_iff : (blocking n f ts ≡ none) ↔ ((net : Network) × WellFormed n net × HazardFree n f ts net)
+    pub exists_iff : (blocking n f ts ≡ None) ↔ ((net : Network) × WellFormed n net × HazardFree n f ts net)
     exists_iff = (
       λ e. let (net, w, c) = cover-iff.0 e in (net, w, (cover_hazard_free n f ts net accepted w).0 c),
       λ h. let (net, w, q) = h in cover-iff.1 (net, w, (cover_hazard_free n f ts net accepted w).1 q),
@@ -136,12 +136,12 @@ module _ (n : ℕ) (f ts : List ℕ) where
         rest p m = without_member j net m
 
         go : (o : Option Required) → Find (λ r. not (covered (without j net) r.cube)) (required n f ts) o → Own (required n f ts) net j
-        go none (missing k) =
+        go None (missing k) =
             absurd (h.irredundant j l ((cover_hazard_free n f ts (without j net) accepted (λ p m. (h.primes p (rest p m)).product)).0 (record {
               a = λ p m. h.cover.a p (rest p m);
               b = λ r m. sure (covered (without j net) r.cube) (k r m);
               c = λ p m. h.cover.c p (rest p m);
             })))
-        go (some r) (hit m t _) =
+        go (Some r) (hit m t _) =
             let u = simp T_no at t in
             record { cube = r; listed = m; mine = without-covered j net r.cube (h.cover.b r m) u; alone = u }

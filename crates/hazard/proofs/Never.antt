@@ -2,7 +2,7 @@
 use mathlib.Core.Path.{◌≡◌, refl, sym, ap, subst, ◌∙◌}
 use mathlib.Core.Logic.{◌≢◌}
 use mathlib.Core.List.{List}
-use mathlib.Core.Option.{Option, none, some}
+use Rattle.std.specs.Prelude.{Option, None, Some}
 use Prim.Native.Nat.{ℕ}
 use native.Mathlib.Omega.{arith}
 use lib.ListN.{length}
@@ -16,10 +16,10 @@ use Rattle.hazard.proofs.Numbers.{no_more, next, block_number, room-number, prod
 
 -- A fault is no refusal.
 fault_refuses : (a c : Option (ℕ × ℕ)) (b : Option Required) → (fields_of (first_fault a c b)).refusal ≡ 0
-fault_refuses (some p) c b = refl
-fault_refuses none (some p) b = refl
-fault_refuses none none (some r) = refl
-fault_refuses none none none = refl
+fault_refuses (Some p) c b = refl
+fault_refuses None (Some p) b = refl
+fault_refuses None None (Some r) = refl
+fault_refuses None None None = refl
 
 module _ (n : ℕ) (f ts : List ℕ) where
   -- Whatever the minimiser promises, its refusal is another.
@@ -30,19 +30,19 @@ module _ (n : ℕ) (f ts : List ℕ) where
       inner r e = cc
 
       go : (o : Option Refusal) → first_of (minimiser_checks n f ts (length before)) ≡ o → q.number ≢ 8
-      go (some r) e = subst (λ (x : Refusal). x.number ≢ 8) (inner r (p.refused r e).0) (never_eight n f ts (next (room-number n f ts (length before)) (next (block_number n f ts) no_more)) (λ t. t) e)
-      go none e = let z : ◌≡◌ {A = ℕ} 0 1 = let w = (p.network e).1 in cc in absurd (omega arith)
+      go (Some r) e = subst (λ (x : Refusal). x.number ≢ 8) (inner r (p.refused r e).0) (never_eight n f ts (next (room-number n f ts (length before)) (next (block_number n f ts) no_more)) (λ t. t) e)
+      go None e = let z : ◌≡◌ {A = ℕ} 0 1 = let w = (p.network e).1 in cc in absurd (omega arith)
 
   -- Whatever the verifier promises, the refusal's number is another.
   pub verified_never_eight : {bytes : List ℕ} {v : Verdict} → Verified n f ts bytes v → (fields_of v).refusal ≢ 8
   verified_never_eight {bytes} {v} p = go (first_of (verifier_checks n f ts bytes)) refl
     where
       judgement : Option Refusal → Verdict
-      judgement o = elim o [ some r ↦ refused r | none ↦ fault n f ts (products n bytes) ]
+      judgement o = elim o [ Some r ↦ refused r | None ↦ fault n f ts (products n bytes) ]
 
       same : (o : Option Refusal) → first_of (verifier_checks n f ts bytes) ≡ o → (fields_of v).refusal ≡ (fields_of (judgement o)).refusal
       same o e = ap (λ (w : Verdict). (fields_of w).refusal) (p.is ∙ ap judgement e)
 
       go : (o : Option Refusal) → first_of (verifier_checks n f ts bytes) ≡ o → (fields_of v).refusal ≢ 8
-      go (some q) e h = never_eight n f ts (next (products-number n bytes) (next (digits_number n (products n bytes)) no_more)) (λ t. t) e (sym (same (some q) e) ∙ h)
-      go none e h = omega (arith, same none e, fault_refuses (fault_a n (off f) (products n bytes)) (fault_c (privileged n f ts) (products n bytes)) (fault_b (required n f ts) (products n bytes)))
+      go (Some q) e h = never_eight n f ts (next (products-number n bytes) (next (digits_number n (products n bytes)) no_more)) (λ t. t) e (sym (same (Some q) e) ∙ h)
+      go None e h = omega (arith, same None e, fault_refuses (fault_a n (off f) (products n bytes)) (fault_c (privileged n f ts) (products n bytes)) (fault_b (required n f ts) (products n bytes)))

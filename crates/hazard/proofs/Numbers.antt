@@ -3,7 +3,8 @@ use mathlib.Core.Path.{◌≡◌, refl, sym, ap, subst, ◌∙◌}
 use mathlib.Core.Logic.{◌≢◌}
 use mathlib.Core.Bool.{Bool, true, false, not, ◌||◌}
 use mathlib.Core.List.{List, [], ◌∷◌, ◌++◌}
-use mathlib.Core.Option.{Option, none, some, map, some-injective}
+use Rattle.std.specs.Prelude.{Option, None, Some, option_map}
+use Rattle.std.proofs.lemmas.Option.{same_Some}
 use Prim.Native.Nat.{ℕ, ◌/◌, ◌%◌, ◌^◌, ◌*◌}
 use lib.Dec.{T, eqb, leb, ltb}
 use lib.ListN.{length}
@@ -23,25 +24,25 @@ use Rattle.hazard.proofs.Few.{rule_checks, many_never}
 
 -- What the check finds has the number k.
 abbrev pub Numbered : ℕ → Option Refusal → Type 0
-Numbered k o = (q : Refusal) → o ≡ some q → q.number ≡ k
+Numbered k o = (q : Refusal) → o ≡ Some q → q.number ≡ k
 
 -- So it is for each way to make a check: a test,
 pub test_number : (b : Bool) (k : ℕ) → Numbered k (refuse_if b k)
-test_number true k q e = sym (ap (λ (r : Refusal). r.number) (some-injective _ _ e))
+test_number true k q e = sym (ap (λ (r : Refusal). r.number) (same_Some _ _ e))
 test_number false k q e = none-some e
 
 -- a search, whose find is named in a refusal,
-pub search_number : {A : Type 0} {k : ℕ} (g : A → Refusal) → ((a : A) → (g a).number ≡ k) → (o : Option A) → Numbered k (map g o)
-search_number g h none q e = none-some e
-search_number g h (some a) q e = sym (ap (λ (r : Refusal). r.number) (some-injective _ _ e)) ∙ h a
+pub search_number : {A : Type 0} {k : ℕ} (g : A → Refusal) → ((a : A) → (g a).number ≡ k) → (o : Option A) → Numbered k (option_map g o)
+search_number g h None q e = none-some e
+search_number g h (Some a) q e = sym (ap (λ (r : Refusal). r.number) (same_Some _ _ e)) ∙ h a
 
 -- and the growth of the required cubes.
 pub block_number : (n : ℕ) (f ts : List ℕ) → Numbered 10 (blocking n f ts)
 block_number n f ts q e = let (r, m, h) = first_of-some (block_check n (off f) (privileged n f ts)) (required n f ts) e in go r (grow n (off f) (privileged n f ts) r.cube) h
   where
-    go : (r : Required) (g : Growth) → blocked_by r g ≡ some q → q.number ≡ 10
+    go : (r : Required) (g : Growth) → blocked_by r g ≡ Some q → q.number ≡ 10
     go r (Legal c s) h = none-some h
-    go r (Blocked z s) h = sym (ap (λ (x : Refusal). x.number) (some-injective _ _ h))
+    go r (Blocked z s) h = sym (ap (λ (x : Refusal). x.number) (same_Some _ _ h))
 
 -- The checks, by their names.
 module _ (n : ℕ) where
@@ -96,18 +97,18 @@ listed k [] = false
 listed k (j ∷ ks) = eqb k j || listed k ks
 
 -- What is found has one of the numbers.
-pub number-listed : {ks : List ℕ} {l : List (Option Refusal)} {q : Refusal} → Numbers ks l → first_of l ≡ some q → T (listed q.number ks)
+pub number-listed : {ks : List ℕ} {l : List (Option Refusal)} {q : Refusal} → Numbers ks l → first_of l ≡ Some q → T (listed q.number ks)
 number-listed no_more e = none-some e
-number-listed {q = q} (next {k = k} {ks = ks} {o = none} h s) e = or_r (eqb q.number k) (listed q.number ks) (number-listed s e)
-number-listed {q = q} (next {k = k} {ks = ks} {o = some p} h s) e = or_l (eqb q.number k) (listed q.number ks) (eqb_of (h q e))
+number-listed {q = q} (next {k = k} {ks = ks} {o = None} h s) e = or_r (eqb q.number k) (listed q.number ks) (number-listed s e)
+number-listed {q = q} (next {k = k} {ks = ks} {o = Some p} h s) e = or_l (eqb q.number k) (listed q.number ks) (eqb_of (h q e))
 
 -- What has none of the numbers of the first checks was found by the later ones, and the first found nothing.
-pub later-found : {ks : List ℕ} {l : List (Option Refusal)} (m : List (Option Refusal)) {q : Refusal} → Numbers ks l → ¬ T (listed q.number ks) → first_of (l ++ m) ≡ some q → (first_of l ≡ none) × (first_of m ≡ some q)
+pub later-found : {ks : List ℕ} {l : List (Option Refusal)} (m : List (Option Refusal)) {q : Refusal} → Numbers ks l → ¬ T (listed q.number ks) → first_of (l ++ m) ≡ Some q → (first_of l ≡ None) × (first_of m ≡ Some q)
 later-found {ks} {l} m {q} s t e = go (first_of l) refl
   where
-    go : (o : Option Refusal) → first_of l ≡ o → (first_of l ≡ none) × (first_of m ≡ some q)
-    go none h = (h, sym (first_of-right l m h) ∙ e)
-    go (some p) h = absurd (t (number-listed s (h ∙ sym (first_of-left l m h) ∙ e)))
+    go : (o : Option Refusal) → first_of l ≡ o → (first_of l ≡ None) × (first_of m ≡ Some q)
+    go None h = (h, sym (first_of-right l m h) ∙ e)
+    go (Some p) h = absurd (t (number-listed s (h ∙ sym (first_of-left l m h) ∙ e)))
 
 module _ (n : ℕ) (f ts : List ℕ) where
   -- The input rules have numbers, which compute to a list: those before check 8,
@@ -136,14 +137,14 @@ module _ (n : ℕ) (f ts : List ℕ) where
   verifier_numbers bytes = (_, numbers-append input-numbers.1 (next (products-number n bytes) (next (digits_number n (products n bytes)) no_more)))
 
   -- Refusal 10 comes from blocking alone: the checks before it find nothing.
-  pub ten_blocks : (room : ℕ) {q : Refusal} → first_of (minimiser_checks n f ts room) ≡ some q → q.number ≡ 10
-      → (first_of (input_checks n f ts ++ (room_check n f ts room ∷ [])) ≡ none) × (blocking n f ts ≡ some q)
+  pub ten_blocks : (room : ℕ) {q : Refusal} → first_of (minimiser_checks n f ts room) ≡ Some q → q.number ≡ 10
+      → (first_of (input_checks n f ts ++ (room_check n f ts room ∷ [])) ≡ None) × (blocking n f ts ≡ Some q)
   ten_blocks room {q} e h =
       let (a, b) = later-found (blocking n f ts ∷ []) (room-numbers room).1 (λ t. subst (λ (k : ℕ). T (listed k (room-numbers room).0)) h t) e in
       (a, sym (first_of-one (blocking n f ts)) ∙ b)
 
   -- Refusal 8 never comes, whatever checks with other numbers follow the input rules.
-  pub never_eight : {ks : List ℕ} {later : List (Option Refusal)} {q : Refusal} → Numbers ks later → ¬ T (listed 8 ks) → first_of (input_checks n f ts ++ later) ≡ some q → q.number ≢ 8
+  pub never_eight : {ks : List ℕ} {later : List (Option Refusal)} {q : Refusal} → Numbers ks later → ¬ T (listed 8 ks) → first_of (input_checks n f ts ++ later) ≡ Some q → q.number ≢ 8
   never_eight {ks} {later} s t e h =
       t (subst (λ (k : ℕ). T (listed k (rule_numbers.0 ++ ks))) h
       (number-listed (numbers-append rule_numbers.1 s) (sym (first_of_as (input_checks n f ts) (rule_checks n f ts) later (many_never n f ts)) ∙ e)))

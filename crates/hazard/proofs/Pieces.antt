@@ -1,7 +1,7 @@
 -- The set pieces hold.
 use mathlib.Core.Path.{◌≡◌, refl}
 use mathlib.Core.List.{List, [], ◌∷◌}
-use mathlib.Core.Option.{none}
+use Rattle.std.specs.Prelude.{None}
 use Prim.Native.Nat.{ℕ}
 use lib.Dec.{T}
 use Rattle.hazard.specs.Search.{first_of}
@@ -17,7 +17,7 @@ abbrev pub Every : {A : Type 0} → (A → Type 0) → List A → Type 0
 Every P [] = Unit {0}
 Every P (a ∷ l) = P a × Every P l
 
-exactly : (n : ℕ) (f ts : List ℕ) (net : Network) → Accepted n f ts → first_of (minimiser_checks n f ts (buffer_length n f ts)) ≡ none → T (essential n f ts net) → Exactly n f ts net
+exactly : (n : ℕ) (f ts : List ℕ) (net : Network) → Accepted n f ts → first_of (minimiser_checks n f ts (buffer_length n f ts)) ≡ None → T (essential n f ts net) → Exactly n f ts net
 exactly n f ts net a e t = record { taken = e; meets = essential_minimal n f ts a net t; only = essential_only n f ts a net t }
 
 -- K1 to K12, in the order of the table.

@@ -4,7 +4,7 @@ use mathlib.Core.Logic.{inl, inr}
 use mathlib.Core.Bool.{Bool, true, false, cond, ◌&&◌, true≢false}
 use mathlib.Core.List.Memᴰ
 use mathlib.Core.List.{List, [], ◌++◌, Memᴰ}
-use mathlib.Core.Option.{Option, none, some}
+use Rattle.std.specs.Prelude.{Option, None, Some}
 use Prim.Native.Nat.{ℕ, ◌*◌, ◌^◌, ◌≤◌, ◌<◌}
 use native.Mathlib.Nat.{mul-le-mul}
 use native.Mathlib.Omega.{arith}
@@ -160,11 +160,11 @@ module _ (n : ℕ) (f ts bytes : List ℕ) where
   verdict-right = go (first_of (verifier_checks n f ts bytes)) refl
     where
       judged : Option Refusal → Verdict
-      judged o = elim o [ some r ↦ refused r | none ↦ fault n f ts network ]
+      judged o = elim o [ Some r ↦ refused r | None ↦ fault n f ts network ]
 
       go : (o : Option Refusal) → first_of (verifier_checks n f ts bytes) ≡ o → Evidence f ts network (judged o) (run_for f ts network (judged o))
-      go (some r) e = refl
-      go none e = fault-right n f ts network (checked_accepted n f ts bytes e) (checked_well_formed n f ts bytes e)
+      go (Some r) e = refl
+      go None e = fault-right n f ts network (checked_accepted n f ts bytes e) (checked_well_formed n f ts bytes e)
 
   -- The whole promise, of the run for the definition's verdict.
   pub shown : {v : Verdict} → v ≡ verdict n f ts bytes → {before after : List ℕ} {size : ℕ} → size ≡ length (run_for f ts network v)
@@ -229,12 +229,12 @@ pub shown_most : {n : ℕ} {f ts bytes : List ℕ} {v : Verdict} {before after :
 shown_most {n} {f} {ts} {bytes} {v} {size = size} p h = go (first_of (verifier_checks n f ts bytes)) refl
   where
     go : (o : Option Refusal) → first_of (verifier_checks n f ts bytes) ≡ o → size ≤ most_wires
-    go (some r) e =
-        let w : v ≡ refused r = p.is ∙ ap (λ (q : Option Refusal). elim q as (λ (x : Option Refusal). Verdict) [ some r ↦ refused r | none ↦ fault n f ts (products n bytes) ]) e in
+    go (Some r) e =
+        let w : v ≡ refused r = p.is ∙ ap (λ (q : Option Refusal). elim q as (λ (x : Option Refusal). Verdict) [ Some r ↦ refused r | None ↦ fault n f ts (products n bytes) ]) e in
         let z = unchanged f ts (products n bytes) h (subst⁻¹ (λ (u : Verdict). ¬ T (due f ts u)) w (λ t. t)) in
         omega (arith, z.0)
-    go none e =
-        let c : products_check n bytes ≡ none = first_of-none (network_checks n bytes) ((first_of-append (input_checks n f ts) (network_checks n bytes)).0 e).1 (search entries) in
+    go None e =
+        let c : products_check n bytes ≡ None = first_of-none (network_checks n bytes) ((first_of-append (input_checks n f ts) (network_checks n bytes)).0 e).1 (search entries) in
         omega (
           arith,
           h.counted,
@@ -250,10 +250,10 @@ shown_classical {n} {f} {bytes} p h =
     (go (first_of (function_checks n f ++ network_checks n bytes)) (fault_a n (off f) (products n bytes)) (missed n f (products n bytes))))
   where
     found : Option (ℕ × ℕ) → Option ℕ → Verdict
-    found a b = elim a [ some q ↦ holds_zero q.0 q.1 | none ↦ elim b [ some x ↦ uncovered 0 x | none ↦ passed ] ]
+    found a b = elim a [ Some q ↦ holds_zero q.0 q.1 | None ↦ elim b [ Some x ↦ uncovered 0 x | None ↦ passed ] ]
 
-    go : (o : Option Refusal) (a : Option (ℕ × ℕ)) (b : Option ℕ) → ¬ T (due f [] (elim o [ some r ↦ refused r | none ↦ found a b ]))
-    go (some r) a b t = t
-    go none (some q) b t = t
-    go none none (some x) t = t
-    go none none none t = t
+    go : (o : Option Refusal) (a : Option (ℕ × ℕ)) (b : Option ℕ) → ¬ T (due f [] (elim o [ Some r ↦ refused r | None ↦ found a b ]))
+    go (Some r) a b t = t
+    go None (Some q) b t = t
+    go None None (Some x) t = t
+    go None None None t = t

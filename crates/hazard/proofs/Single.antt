@@ -3,7 +3,7 @@ use mathlib.Core.Path.{◌≡◌, sym, ap, subst}
 use mathlib.Core.Logic.{◌↔◌, inl, inr}
 use mathlib.Core.Bool.{◌&&◌}
 use mathlib.Core.List.{List, Memᴰ}
-use mathlib.Core.Option.{none}
+use Rattle.std.specs.Prelude.{None}
 use Prim.Native.Nat.{ℕ, ◌^◌, ◌<◌}
 use native.Mathlib.Omega.{arith}
 use lib.Dec.{T}
@@ -32,7 +32,7 @@ module _ (n : ℕ) (f ts : List ℕ) where
         let w : T (visits n ts k x) = rw q (subst (λ (c : Privileged). T (has c.cube y)) (sym e) (→has j)) in
         (simp tests at alone).1 (visited_i n ts x k l w)
 
-    point-clean : lowest_zero n (off f) (span n x x) ≡ none
+    point-clean : lowest_zero n (off f) (span n x x) ≡ None
     point-clean = none_first (λ y. has (span n x x) y && off f y) 0 (2 ^ n) (λ y a b t.
         let (h, o) = simp tests at t in
         let q = ap (value f) (span_self n x y small (omega arith) h) in

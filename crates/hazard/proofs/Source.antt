@@ -4,7 +4,7 @@ use mathlib.Core.Logic.{◌≢◌, ◌↔◌, inl, inr}
 use mathlib.Core.Bool.{Bool, ◌&&◌}
 use mathlib.Core.List.Memᴰ
 use mathlib.Core.List.{List, Memᴰ}
-use mathlib.Core.Option.{none}
+use Rattle.std.specs.Prelude.{None}
 use Prim.Native.Nat.{ℕ, ◌+◌, ◌-◌, ◌*◌, ◌^◌, ◌≤◌, ◌<◌}
 use native.Mathlib.Omega.{arith}
 use native.Mathlib.Decide.{ℕ_discrete, dec_lt}
@@ -243,7 +243,7 @@ kept_free n f a b defined fall e = dynamic-free n f a b 0 (omega arith) defined 
 kept_free n f a b defined high e = static_free n f a b 1 (omega arith) defined e.1 e.0
 
 -- Definitions 2.4 and 2.5: the rule of the kind holds exactly where f has no function hazard.
-pub rule_source : (n : ℕ) (f : List ℕ) (a b : ℕ) → a < 2 ^ n → b < 2 ^ n → Defined n f a b → (function_hazard_at n f a b ≡ none) ↔ ((¬ StaticHazard n f a b) × (¬ DynamicHazard n f a b))
+pub rule_source : (n : ℕ) (f : List ℕ) (a b : ℕ) → a < 2 ^ n → b < 2 ^ n → Defined n f a b → (function_hazard_at n f a b ≡ None) ↔ ((¬ StaticHazard n f a b) × (¬ DynamicHazard n f a b))
 rule_source n f a b l m defined = (
   λ e. r.0 (λ x h t u. first-none test 0 (2 ^ n) e x (omega arith) (omega arith) (simp T_and (t, u))),
   λ h. none_first test 0 (2 ^ n) (λ x p q t. let u = simp T_and at t in r.1 h x (omega arith) u.0 u.1),

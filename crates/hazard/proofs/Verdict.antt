@@ -3,7 +3,9 @@ use mathlib.Core.Path.{◌≡◌, refl, sym, subst, ◌∙◌, ap}
 use mathlib.Core.Logic.{◌↔◌, ◌⊎◌, inl, inr}
 use mathlib.Core.Bool.{not, ◌&&◌, ◌||◌}
 use mathlib.Core.List.{List, Memᴰ}
-use mathlib.Core.Option.{Option, none, some, map, map-eq-none_iff, some-injective}
+use Rattle.std.specs.Prelude.{Option, None, Some, option_map}
+use Rattle.std.proofs.lemmas.Option.{same_Some}
+use Rattle.hazard.proofs.Options.{map-eq-none_iff}
 use Prim.Native.Nat.{ℕ, zero, suc, ◌+◌, ◌/◌, ◌%◌, ◌^◌, ◌≤◌, ◌<◌}
 use native.Mathlib.Omega.{arith}
 use lib.Dec.{T, T_not, eqb, ltb, eqb→eq, lt→ltb}
@@ -42,32 +44,32 @@ ConditionC vs p = (v : Privileged) → Memᴰ v vs → ¬ T (illegal p v)
 
 module _ (n : ℕ) (f ts : List ℕ) (net : Network) where
   -- Nothing found in each of the three searches is each of the three conditions.
-  none-a : (fault_a n (off f) net ≡ none) ↔ ((p : Cube) → Memᴰ p net → ConditionA n f p)
+  none-a : (fault_a n (off f) net ≡ None) ↔ ((p : Cube) → Memᴰ p net → ConditionA n f p)
   none-a = (
     λ e. at_places (ConditionA n f) net (λ j l x m z t. first-none (λ y. has (product_at net j) y && off f y) 0 (2 ^ n) (places.0 e j (omega arith) (omega arith)) x (omega arith) (omega arith) (simp T_and (t, z))),
     λ h. places.1 (λ j l m. none_first (λ y. has (product_at net j) y && off f y) 0 (2 ^ n) (λ x i k t.
         let r = simp T_and at t in h (product_at net j) (entry_at net j (omega arith)) x (omega arith) r.1 r.0)),
   )
     where
-      places : (fault_a n (off f) net ≡ none) ↔ ((j : ℕ) → 0 ≤ j → j < 0 + length net → lowest_zero n (off f) (product_at net j) ≡ none)
+      places : (fault_a n (off f) net ≡ None) ↔ ((j : ℕ) → 0 ≤ j → j < 0 + length net → lowest_zero n (off f) (product_at net j) ≡ None)
       places = place_none (λ j. lowest_zero n (off f) (product_at net j)) 0 (length net)
 
-  none-c : (fault_c (privileged n f ts) net ≡ none) ↔ ((p : Cube) → Memᴰ p net → ConditionC (privileged n f ts) p)
+  none-c : (fault_c (privileged n f ts) net ≡ None) ↔ ((p : Cube) → Memᴰ p net → ConditionC (privileged n f ts) p)
   none-c = (
     λ e. at_places (ConditionC (privileged n f ts)) net (λ j l. (find_none (illegal (product_at net j)) (privileged n f ts)).0 ((mapped j).0 (places.0 e j (omega arith) (omega arith)))),
     λ h. places.1 (λ j l m. (mapped j).1 ((find_none (illegal (product_at net j)) (privileged n f ts)).1 (h (product_at net j) (entry_at net j (omega arith))))),
   )
     where
       look : ℕ → Option ℕ
-      look j = map (λ (v : Privileged). v.transition) (find (illegal (product_at net j)) (privileged n f ts))
+      look j = option_map (λ (v : Privileged). v.transition) (find (illegal (product_at net j)) (privileged n f ts))
 
-      mapped : (j : ℕ) → (look j ≡ none) ↔ (find (illegal (product_at net j)) (privileged n f ts) ≡ none)
+      mapped : (j : ℕ) → (look j ≡ None) ↔ (find (illegal (product_at net j)) (privileged n f ts) ≡ None)
       mapped j = map-eq-none_iff (λ (v : Privileged). v.transition) (find (illegal (product_at net j)) (privileged n f ts))
 
-      places : (fault_c (privileged n f ts) net ≡ none) ↔ ((j : ℕ) → 0 ≤ j → j < 0 + length net → look j ≡ none)
+      places : (fault_c (privileged n f ts) net ≡ None) ↔ ((j : ℕ) → 0 ≤ j → j < 0 + length net → look j ≡ None)
       places = place_none look 0 (length net)
 
-  none-b : (fault_b (required n f ts) net ≡ none) ↔ ((r : Required) → Memᴰ r (required n f ts) → T (covered net r.cube))
+  none-b : (fault_b (required n f ts) net ≡ None) ↔ ((r : Required) → Memᴰ r (required n f ts) → T (covered net r.cube))
   none-b =
       let s = find_none (λ (r : Required). not (covered net r.cube)) (required n f ts) in
       (λ e r m. sure (covered net r.cube) (s.0 e r m), λ h. s.1 (λ r m t. T_not (covered net r.cube) t (h r m)))
@@ -88,27 +90,27 @@ pub data Named (n : ℕ) (f ts : List ℕ) (net : Network) : Verdict → Type 0 
 
 module _ (n : ℕ) (f ts : List ℕ) (net : Network) where
   -- The zero that a look into one product finds.
-  zero_at : (j : ℕ) {x : ℕ} → lowest_zero n (off f) (product_at net j) ≡ some x
+  zero_at : (j : ℕ) {x : ℕ} → lowest_zero n (off f) (product_at net j) ≡ Some x
       → (x < 2 ^ n) × T (has (product_at net j) x) × T (off f x) × ((y : ℕ) → y < x → T (off f y) → ¬ T (has (product_at net j) y))
   zero_at j {x} e = go (lowest_zero n (off f) (product_at net j)) e (first-is (λ y. has (product_at net j) y && off f y) 0 (2 ^ n))
     where
-      go : (o : Option ℕ) → o ≡ some x → First (λ y. has (product_at net j) y && off f y) 0 (2 ^ n) o
+      go : (o : Option ℕ) → o ≡ Some x → First (λ y. has (product_at net j) y && off f y) 0 (2 ^ n) o
           → (x < 2 ^ n) × T (has (product_at net j) x) × T (off f x) × ((y : ℕ) → y < x → T (off f y) → ¬ T (has (product_at net j) y))
-      go none e v = none-some e
-      go (some z) e (lowest t l m h) =
-          let q : z ≡ x = some-injective z x e in
+      go None e v = none-some e
+      go (Some z) e (lowest t l m h) =
+          let q : z ≡ x = same_Some z x e in
           let (i, o) = simp T_and at t in
           (omega arith, rw q at i, rw q at o, λ y k u w. h y (omega arith) (omega arith) (simp T_and (w, u)))
 
   -- The privileged cube that a look at one product finds.
-  illegal_at : (j : ℕ) {k : ℕ} → map (λ (v : Privileged). v.transition) (find (illegal (product_at net j)) (privileged n f ts)) ≡ some k
+  illegal_at : (j : ℕ) {k : ℕ} → option_map (λ (v : Privileged). v.transition) (find (illegal (product_at net j)) (privileged n f ts)) ≡ Some k
       → (v : Privileged) × (v.transition ≡ k) × (m : Memᴰ v (privileged n f ts)) × T (illegal (product_at net j) v) × Earlier (illegal (product_at net j)) m
   illegal_at j {k} = go (find (illegal (product_at net j)) (privileged n f ts)) (find-is (illegal (product_at net j)) (privileged n f ts))
     where
-      go : (o : Option Privileged) → Find (illegal (product_at net j)) (privileged n f ts) o → map (λ (v : Privileged). v.transition) o ≡ some k
+      go : (o : Option Privileged) → Find (illegal (product_at net j)) (privileged n f ts) o → option_map (λ (v : Privileged). v.transition) o ≡ Some k
           → (v : Privileged) × (v.transition ≡ k) × (m : Memᴰ v (privileged n f ts)) × T (illegal (product_at net j) v) × Earlier (illegal (product_at net j)) m
-      go none w e = none-some e
-      go (some v) (hit m t h) e = (v, some-injective v.transition k e, m, t, h)
+      go None w e = none-some e
+      go (Some v) (hit m t h) e = (v, same_Some v.transition k e, m, t, h)
 
   pub fault_named : Named n f ts net (fault n f ts net)
   fault_named =
@@ -119,22 +121,22 @@ module _ (n : ℕ) (f ts : List ℕ) (net : Network) where
       look_a j = lowest_zero n (off f) (product_at net j)
 
       look_c : ℕ → Option ℕ
-      look_c j = map (λ (v : Privileged). v.transition) (find (illegal (product_at net j)) (privileged n f ts))
+      look_c j = option_map (λ (v : Privileged). v.transition) (find (illegal (product_at net j)) (privileged n f ts))
 
       stages : (a : Option (ℕ × ℕ)) → fault_a n (off f) net ≡ a → Place look_a 0 (length net) a → (c : Option (ℕ × ℕ)) → fault_c (privileged n f ts) net ≡ c → Place look_c 0 (length net) c
           → (b : Option Required) → fault_b (required n f ts) net ≡ b → Find (λ (r : Required). not (covered net r.cube)) (required n f ts) b
           → Named n f ts net (first_fault a c b)
-      stages (some p) ea (placed {k = j} l m e h) c ec pc b eb fb =
+      stages (Some p) ea (placed {k = j} l m e h) c ec pc b eb fb =
           let (i, t, o, w) = zero_at j e in
           zero_named {j = j} (omega arith) i t o w (λ i k x u z v. first-none (λ y. has (product_at net i) y && off f y) 0 (2 ^ n) (h i (omega arith) k) x (omega arith) (omega arith) (simp T_and (v, z)))
-      stages none ea pa (some p) ec (placed {k = j} l m e h) b eb fb =
+      stages None ea pa (Some p) ec (placed {k = j} l m e h) b eb fb =
           let (v, q, u, t, w) = illegal_at j e in
           subst (λ (z : ℕ). Named n f ts net (intersects j z)) q
           (illegal_named {j = j} (omega arith) u t w
           (λ i k. (find_none (illegal (product_at net i)) (privileged n f ts)).0 ((map-eq-none_iff (λ (z : Privileged). z.transition) (find (illegal (product_at net i)) (privileged n f ts))).0 (h i (omega arith) k)))
           ((none-a n f ts net).0 ea))
-      stages none ea pa none ec pc (some r) eb (hit m t h) = cube_named m (T_not (covered net r.cube) t) h ((none-a n f ts net).0 ea) ((none-c n f ts net).0 ec)
-      stages none ea pa none ec pc none eb fb = none_named (record { a = (none-a n f ts net).0 ea; b = (none-b n f ts net).0 eb; c = (none-c n f ts net).0 ec })
+      stages None ea pa None ec pc (Some r) eb (hit m t h) = cube_named m (T_not (covered net r.cube) t) h ((none-a n f ts net).0 ea) ((none-c n f ts net).0 ec)
+      stages None ea pa None ec pc None eb fb = none_named (record { a = (none-a n f ts net).0 ea; b = (none-b n f ts net).0 eb; c = (none-c n f ts net).0 ec })
 
   -- Verdict 3 names a transition of the list.
   pub intersects_names : (j k : ℕ) → fault n f ts net ≡ intersects j k → k < count ts
@@ -189,25 +191,25 @@ module _ (n : ℕ) (f ts : List ℕ) (net : Network) where
       (λ e. t.0 (fault-passed.0 e), λ h. fault-passed.1 (t.1 h))
 
 -- The verdict is that of the searches exactly if the checks refuse nothing.
-judged : (o : Option Refusal) (v : Verdict) → (◌≡◌ {A = Verdict} (elim o [ some r ↦ refused r | none ↦ v ]) passed) ↔ ((o ≡ none) × (v ≡ passed))
-judged none v = (λ e. (refl, e), λ e. e.1)
-judged (some r) v = (λ e. let z : ◌≡◌ {A = ℕ} 0 1 = cc in absurd (omega arith), λ e. none-some (sym e.0))
+judged : (o : Option Refusal) (v : Verdict) → (◌≡◌ {A = Verdict} (elim o [ Some r ↦ refused r | None ↦ v ]) passed) ↔ ((o ≡ None) × (v ≡ passed))
+judged None v = (λ e. (refl, e), λ e. e.1)
+judged (Some r) v = (λ e. let z : ◌≡◌ {A = ℕ} 0 1 = cc in absurd (omega arith), λ e. none-some (sym e.0))
 
 -- What check 11 says of what it lets through.
-pub products_fit : (n : ℕ) (bytes : List ℕ) → products_check n bytes ≡ none → (length bytes % n ≡ 0) × (length bytes / n ≤ most_products)
+pub products_fit : (n : ℕ) (bytes : List ℕ) → products_check n bytes ≡ None → (length bytes % n ≡ 0) × (length bytes / n ≤ most_products)
 products_fit n bytes e =
     let t = no_or (not (eqb (length bytes % n) 0)) (ltb most_products (length bytes / n)) (lets (not (eqb (length bytes % n) 0) || ltb most_products (length bytes / n)) 11 e) in
     let h : ¬ (most_products < length bytes / n) = λ l. t.1 (lt→ltb most_products (length bytes / n) l) in
     (eqb→eq (length bytes % n) 0 (sure (eqb (length bytes % n) 0) t.0), omega arith)
 
 -- It has no more products than the limit.
-pub products-few : (n : ℕ) (bytes : List ℕ) → products_check n bytes ≡ none → length (products n bytes) ≤ most_products
+pub products-few : (n : ℕ) (bytes : List ℕ) → products_check n bytes ≡ None → length (products n bytes) ≤ most_products
 products-few n bytes e = omega (arith, products-length n bytes, (products_fit n bytes e).1)
 
 module _ (n : ℕ) (f ts bytes : List ℕ) where
   -- The verifier's checks refuse nothing.
   abbrev pub Checked : Type 0
-  Checked = first_of (verifier_checks n f ts bytes) ≡ none
+  Checked = first_of (verifier_checks n f ts bytes) ≡ None
 
   -- What the verifier's checks let through is an accepted table, with a network.
   pub checked_accepted : Checked → Accepted n f ts

@@ -1,7 +1,7 @@
 -- The classical theory of two-level logic, which knows no transitions: what a problem with an empty list asks.
 use Rattle.std.specs.Prelude.{◌≡◌, ◌↔◌, ◌≢◌, Bool, true, false, not, ◌&&◌, ℕ, ◌*◌, ◌<◌, ◌^◌, T, eqb, ltb, length, get_or, set, drop}
 use mathlib.Core.List.{List, [], ◌∷◌, ◌++◌, Memᴰ}
-use Rattle.std.proofs.Math.Option.{Option, none, some}
+use Rattle.std.specs.Prelude.{Option, None, Some}
 use Rattle.hazard.specs.Search.{first, those, first_of}
 use Rattle.hazard.specs.Cube.{Cube, is_product, has}
 use Rattle.hazard.specs.Transition.{value, off}
@@ -51,19 +51,19 @@ module _ (n : ℕ) (f : List ℕ) where
 
   -- The first product that is no implicant, with its lowest 0; else the 1 that is missed, with transition 0; else passed.
   abbrev pub classical_fault : Network → Verdict
-  classical_fault net = elim (fault_a n (off f) net) [ some p ↦ holds_zero p.0 p.1 | none ↦ elim (missed net) [ some x ↦ uncovered 0 x | none ↦ passed ] ]
+  classical_fault net = elim (fault_a n (off f) net) [ Some p ↦ holds_zero p.0 p.1 | None ↦ elim (missed net) [ Some x ↦ uncovered 0 x | None ↦ passed ] ]
 
   -- The verdict on a network's bytes.
   abbrev pub classical_verdict : List ℕ → Verdict
-  classical_verdict bytes = elim (first_of (function_checks ++ network_checks n bytes)) [ some q ↦ refused q | none ↦ classical_fault (products n bytes) ]
+  classical_verdict bytes = elim (first_of (function_checks ++ network_checks n bytes)) [ Some q ↦ refused q | None ↦ classical_fault (products n bytes) ]
 
 -- What the minimiser promises where the list is empty: an irredundant cover by prime implicants, in sequence. There always is one.
 pub record ClassicalPromise (n : ℕ) (f before after : List ℕ) (r : Minimised) : Type 0 where
-  pub refused : (q : Refusal) → first_of (cover_checks n f (length before)) ≡ some q → (r ≡ declined q) × (after ≡ before)
-  pub network : first_of (cover_checks n f (length before)) ≡ none
+  pub refused : (q : Refusal) → first_of (cover_checks n f (length before)) ≡ Some q → (r ≡ declined q) × (after ≡ before)
+  pub network : first_of (cover_checks n f (length before)) ≡ None
       → (net : Network) × (r ≡ written (length net)) × IrredundantCover n f net × T (ascending net) × (after ≡ bytes_of net ++ drop (n * length net) before)
 
 -- What the verifier promises where the list is empty: passed exactly if the network realises the function.
 pub record ClassicalVerified (n : ℕ) (f bytes : List ℕ) (v : Verdict) : Type 0 where
   pub is : v ≡ classical_verdict n f bytes
-  pub realises : first_of (function_checks n f ++ network_checks n bytes) ≡ none → (v ≡ passed) ↔ Realises n f (products n bytes)
+  pub realises : first_of (function_checks n f ++ network_checks n bytes) ≡ None → (v ≡ passed) ↔ Realises n f (products n bytes)

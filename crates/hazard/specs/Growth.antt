@@ -1,6 +1,6 @@
 -- Supercube-dhf (document 01: growing a required cube).
 use Rattle.std.specs.Prelude.{Bool, List, ℕ, zero, suc}
-use Rattle.std.proofs.Math.Option.{none, some}
+use Rattle.std.specs.Prelude.{None, Some}
 use Rattle.hazard.specs.Search.{find}
 use Rattle.hazard.specs.Cube.{Cube, join}
 use Rattle.hazard.specs.Sets.{Privileged}
@@ -25,11 +25,11 @@ module _ (n : ℕ) (off : ℕ → Bool) (vs : List Privileged) where
   -- A cube that contains no zero and intersects some privileged cube illegally takes in the start point of the first such cube, and grows on.
   -- Each step frees an input, so n steps are enough and the bound on them never ends growth.
   abbrev pub grow_from : ℕ → Cube → ℕ → Growth
-  grow_from zero c s = elim (lowest_zero n off c) [ some z ↦ Blocked z s | none ↦ Legal c s ]
+  grow_from zero c s = elim (lowest_zero n off c) [ Some z ↦ Blocked z s | None ↦ Legal c s ]
   grow_from (suc fuel) c s =
       elim (lowest_zero n off c) [
-        | some z ↦ Blocked z s
-        | none ↦ elim (find (illegal c) vs) [ some v ↦ grow_from fuel (join c v.start) (suc s) | none ↦ Legal c s ]
+        | Some z ↦ Blocked z s
+        | None ↦ elim (find (illegal c) vs) [ Some v ↦ grow_from fuel (join c v.start) (suc s) | None ↦ Legal c s ]
       ]
 
   -- Growth from the cube on, at no step yet.

@@ -1,7 +1,7 @@
 -- The minimiser: its refusals, and what its network satisfies.
 use Rattle.std.specs.Prelude.{◌≡◌, ◌↔◌, Bool, ℕ, ◌*◌, ◌≤◌, ◌<◌, T, ltb, length, drop}
 use mathlib.Core.List.{List, [], ◌∷◌, ◌++◌, map, Memᴰ}
-use Rattle.std.proofs.Math.Option.{Option, none, some}
+use Rattle.std.specs.Prelude.{Option, None, Some}
 use Rattle.hazard.specs.Search.{first_of}
 use Rattle.hazard.specs.Cube.{Cube, is_product}
 use Rattle.hazard.specs.Transition.{off, count}
@@ -15,8 +15,8 @@ use Rattle.hazard.specs.Refusal.{Refusal, growth_refusal, refuse_if, input_check
 
 -- 10: the growth of a required cube ends blocked; the cube's transition and label, the steps of its growth, and the zero that it ends at.
 abbrev pub blocked_by : Required → Growth → Option Refusal
-blocked_by r (Legal c s) = none
-blocked_by r (Blocked z s) = some (growth_refusal 10 r.transition r.label s z)
+blocked_by r (Legal c s) = None
+blocked_by r (Blocked z s) = Some (growth_refusal 10 r.transition r.label s z)
 
 -- The check of one required cube: whether it blocks.
 abbrev pub block_check : ℕ → (ℕ → Bool) → List Privileged → Required → Option Refusal
@@ -43,7 +43,7 @@ pub record FirstBlocking (n : ℕ) (f ts : List ℕ) (q : Refusal) : Type 0 wher
   pub later : List Required
   pub listed : required n f ts ≡ earlier ++ (cube ∷ later)
   pub free : (r : Required) → Memᴰ r earlier → Grown (grow n (off f) (privileged n f ts) r.cube)
-  pub blocks : block_check n (off f) (privileged n f ts) cube ≡ some q
+  pub blocks : block_check n (off f) (privileged n f ts) cube ≡ Some q
   pub among : q.transition < count ts
   pub taken : 1 ≤ q.steps
   pub few : q.steps ≤ n
@@ -77,11 +77,11 @@ NoNetwork n f ts = ¬ ((net : Network) × WellFormed n net × HazardFree n f ts 
 -- What the minimiser promises of its answer, and of the buffer before and after.
 pub record Promise (n : ℕ) (f ts before after : List ℕ) (r : Minimised) : Type 0 where
   -- Refused as the checks say, the first that applies; and then the buffer is unchanged.
-  pub refused : (q : Refusal) → first_of (minimiser_checks n f ts (length before)) ≡ some q → (r ≡ declined q) × (after ≡ before)
+  pub refused : (q : Refusal) → first_of (minimiser_checks n f ts (length before)) ≡ Some q → (r ≡ declined q) × (after ≡ before)
   -- Not refused: a minimal network, as many products as the answer says, their bytes followed by the buffer's old rest.
-  pub network : first_of (minimiser_checks n f ts (length before)) ≡ none
+  pub network : first_of (minimiser_checks n f ts (length before)) ≡ None
       → (net : Network) × (r ≡ written (length net)) × Minimal n f ts net × (after ≡ bytes_of net ++ drop (n * length net) before)
   -- Where checks 1 to 9 let it through: refusal 10 exactly if there is no hazard-free network.
-  pub none' : first_of (input_checks n f ts ++ (room_check n f ts (length before) ∷ [])) ≡ none → ((q : Refusal) × (r ≡ declined q) × (q.number ≡ 10)) ↔ NoNetwork n f ts
+  pub none' : first_of (input_checks n f ts ++ (room_check n f ts (length before) ∷ [])) ≡ None → ((q : Refusal) × (r ≡ declined q) × (q.number ≡ 10)) ↔ NoNetwork n f ts
   -- Refusal 10 names the first required cube that blocks, and the steps of its growth.
   pub blocks : (q : Refusal) → r ≡ declined q → q.number ≡ 10 → FirstBlocking n f ts q

@@ -1,6 +1,6 @@
 -- A set piece: a problem, what is asked of it and what the answer is; and what it says.
 use Rattle.std.specs.Prelude.{◌≡◌, Bool, List, [], ℕ, ◌*◌, length}
-use Rattle.std.proofs.Math.Option.{none, some}
+use Rattle.std.specs.Prelude.{None, Some}
 use Rattle.hazard.specs.Search.{first_of}
 use Rattle.hazard.specs.Transition.{start, end}
 use Rattle.hazard.specs.Sets.{required}
@@ -35,14 +35,14 @@ module _ (n : ℕ) (f ts : List ℕ) where
 
   -- This network and no other: it is minimal, and every minimal network is it.
   pub record Exactly (net : Network) : Type 0 where
-    pub taken : first_of (minimiser_checks n f ts buffer_length) ≡ none
+    pub taken : first_of (minimiser_checks n f ts buffer_length) ≡ None
     pub meets : Minimal n f ts net
     pub only : (other : Network) → Minimal n f ts other → other ≡ net
 
   -- What an item says of the problem.
   abbrev pub Says : Item → Type 0
   Says (minimised net) = Exactly net
-  Says (declined r) = first_of (minimiser_checks n f ts buffer_length) ≡ some r
+  Says (declined r) = first_of (minimiser_checks n f ts buffer_length) ≡ Some r
   Says (verified bytes v) = verdict n f ts bytes ≡ v
   Says (moved bytes k ws bs) = Run (start ts k) (end ts k) (products n bytes) ws × (outputs (start ts k) (end ts k) (products n bytes) [] ws ≡ bs)
 

@@ -1,6 +1,6 @@
 -- What goes back when work is declined, and the input rules: checks 1 to 8, and 14 after 5.
 use Rattle.std.specs.Prelude.{◌≡◌, Bool, cond, not, ◌||◌, List, [], ◌∷◌, ◌++◌, ℕ, ◌%◌, ◌^◌, eqb, leb, ltb, length}
-use Rattle.std.proofs.Math.Option.{Option, none, some, map}
+use Rattle.std.specs.Prelude.{Option, None, Some, option_map}
 use Rattle.hazard.specs.Limits.{most_moving, most_required}
 use Rattle.hazard.specs.Search.{first, first_place, first_of}
 use Rattle.hazard.specs.Cube.{distance}
@@ -36,7 +36,7 @@ product_refusal number j = refusal_with number 0 0 0 0 j
 
 -- A check finds a refusal or nothing. This one refuses, with a bare number, where the test holds.
 abbrev pub refuse_if : Bool → ℕ → Option Refusal
-refuse_if b number = cond b (some (refusal number 0 0)) none
+refuse_if b number = cond b (Some (refusal number 0 0)) None
 
 -- 1: n is 0 or above 10.
 abbrev pub inputs_check : ℕ → Option Refusal
@@ -48,7 +48,7 @@ length_check n f = refuse_if (not (eqb (length f) (2 ^ n))) 2
 
 -- 3: a table byte above 2; the lowest such point.
 abbrev pub bytes_check : List ℕ → Option Refusal
-bytes_check f = map (λ x. refusal 3 0 x) (first (λ x. ltb 2 (value f x)) 0 (length f))
+bytes_check f = option_map (λ x. refusal 3 0 x) (first (λ x. ltb 2 (value f x)) 0 (length f))
 
 -- 4: the list is odd, or above 64 transitions. An empty list is neither.
 abbrev pub list_check : List ℕ → Option Refusal
@@ -56,19 +56,19 @@ list_check ts = refuse_if (eqb (length ts % 2) 1 || ltb 64 (count ts)) 4
 
 -- 5: an end that is no point; the first such transition.
 abbrev pub ends_check : ℕ → List ℕ → Option Refusal
-ends_check n ts = map (λ k. refusal 5 k 0) (first (λ k. leb (2 ^ n) (start ts k) || leb (2 ^ n) (end ts k)) 0 (count ts))
+ends_check n ts = option_map (λ k. refusal 5 k 0) (first (λ k. leb (2 ^ n) (start ts k) || leb (2 ^ n) (end ts k)) 0 (count ts))
 
 -- 14: more inputs move than the limit; the first such transition.
 abbrev pub bursts_check : ℕ → List ℕ → Option Refusal
-bursts_check n ts = map (λ k. refusal 14 k 0) (first (λ k. ltb most_moving (distance n (start ts k) (end ts k))) 0 (count ts))
+bursts_check n ts = option_map (λ k. refusal 14 k 0) (first (λ k. ltb most_moving (distance n (start ts k) (end ts k))) 0 (count ts))
 
 -- 6: a don't care in some [A,B]; the first such transition, the lowest point.
 abbrev pub defined_check : ℕ → List ℕ → List ℕ → Option Refusal
-defined_check n f ts = map (λ p. refusal 6 p.0 p.1) (first_place (λ k. undefined_at n f (start ts k) (end ts k)) 0 (count ts))
+defined_check n f ts = option_map (λ p. refusal 6 p.0 p.1) (first_place (λ k. undefined_at n f (start ts k) (end ts k)) 0 (count ts))
 
 -- 7: the rule of the kind is broken; the first such transition, the lowest point.
 abbrev pub rules_check : ℕ → List ℕ → List ℕ → Option Refusal
-rules_check n f ts = map (λ p. refusal 7 p.0 p.1) (first_place (λ k. function_hazard_at n f (start ts k) (end ts k)) 0 (count ts))
+rules_check n f ts = option_map (λ p. refusal 7 p.0 p.1) (first_place (λ k. function_hazard_at n f (start ts k) (end ts k)) 0 (count ts))
 
 -- 8: more required cubes than the limit. What the checks before it let through never has so many: this one never finds anything.
 abbrev pub many_check : ℕ → List ℕ → List ℕ → Option Refusal
@@ -92,4 +92,4 @@ input_checks n f ts = (inputs_check n ∷ []) ++ (table_checks n f ++ (list_chec
 
 -- The input rules hold.
 abbrev pub Accepted : ℕ → List ℕ → List ℕ → Type 0
-Accepted n f ts = first_of (input_checks n f ts) ≡ none
+Accepted n f ts = first_of (input_checks n f ts) ≡ None

@@ -1,6 +1,6 @@
 -- The verifier's verdict (document 01: the marker's).
 use Rattle.std.specs.Prelude.{◌≡◌, ◌↔◌, Bool, not, ◌||◌, List, [], ◌∷◌, ◌++◌, ℕ, zero, suc, ◌/◌, ◌%◌, eqb, ltb, length, take, drop}
-use Rattle.std.proofs.Math.Option.{Option, none, some, map}
+use Rattle.std.specs.Prelude.{Option, None, Some, option_map}
 use Rattle.hazard.specs.Limits.{most_products}
 use Rattle.hazard.specs.Search.{first, first_place, find, first_of}
 use Rattle.hazard.specs.Cube.{is_product}
@@ -26,7 +26,7 @@ products_check n bytes = refuse_if (not (eqb (length bytes % n) 0) || ltb most_p
 
 -- 12: a byte above 2; the first such product.
 abbrev pub digits_check : ℕ → Network → Option Refusal
-digits_check n net = map (λ j. product_refusal 12 j) (first (λ j. not (is_product n (product_at net j))) 0 (length net))
+digits_check n net = option_map (λ j. product_refusal 12 j) (first (λ j. not (is_product n (product_at net j))) 0 (length net))
 
 -- The checks of a network.
 abbrev pub network_checks : ℕ → List ℕ → List (Option Refusal)
@@ -53,7 +53,7 @@ fault_a n off net = first_place (λ j. lowest_zero n off (product_at net j)) 0 (
 
 -- The first failure of (c), by product and then transition.
 abbrev pub fault_c : List Privileged → Network → Option (ℕ × ℕ)
-fault_c vs net = first_place (λ j. map (λ (v : Privileged). v.transition) (find (illegal (product_at net j)) vs)) 0 (length net)
+fault_c vs net = first_place (λ j. option_map (λ (v : Privileged). v.transition) (find (illegal (product_at net j)) vs)) 0 (length net)
 
 -- The first failure of (b), in the order of required cubes.
 abbrev pub fault_b : List Required → Network → Option Required
@@ -63,8 +63,8 @@ fault_b rs net = find (λ r. not (covered net r.cube)) rs
 abbrev pub first_fault : Option (ℕ × ℕ) → Option (ℕ × ℕ) → Option Required → Verdict
 first_fault a c b =
     elim a [
-      | some p ↦ holds_zero p.0 p.1
-      | none ↦ elim c [ some p ↦ intersects p.0 p.1 | none ↦ elim b [ some r ↦ uncovered r.transition r.label | none ↦ passed ] ]
+      | Some p ↦ holds_zero p.0 p.1
+      | None ↦ elim c [ Some p ↦ intersects p.0 p.1 | None ↦ elim b [ Some r ↦ uncovered r.transition r.label | None ↦ passed ] ]
     ]
 
 -- The verdict on a network, where nothing is refused.
@@ -73,7 +73,7 @@ fault n f ts net = first_fault (fault_a n (off f) net) (fault_c (privileged n f 
 
 -- The verdict on a network's bytes.
 abbrev pub verdict : ℕ → List ℕ → List ℕ → List ℕ → Verdict
-verdict n f ts bytes = elim (first_of (verifier_checks n f ts bytes)) [ some r ↦ refused r | none ↦ fault n f ts (products n bytes) ]
+verdict n f ts bytes = elim (first_of (verifier_checks n f ts bytes)) [ Some r ↦ refused r | None ↦ fault n f ts (products n bytes) ]
 
 -- The verdict's number and the fields that go back with it. What a verdict does not name is 0.
 pub record Fields : Type 0 where
@@ -98,6 +98,6 @@ pub record Verified (n : ℕ) (f ts bytes : List ℕ) (v : Verdict) : Type 0 whe
   -- So are its number and fields.
   pub fields : fields_of v ≡ fields_of (verdict n f ts bytes)
   -- Where nothing is refused: passed exactly if conditions (a), (b) and (c) hold,
-  pub covers : first_of (verifier_checks n f ts bytes) ≡ none → (v ≡ passed) ↔ HazardFreeCover n f ts (products n bytes)
+  pub covers : first_of (verifier_checks n f ts bytes) ≡ None → (v ≡ passed) ↔ HazardFreeCover n f ts (products n bytes)
   -- and exactly if the network is hazard-free.
-  pub hazard_free : first_of (verifier_checks n f ts bytes) ≡ none → (v ≡ passed) ↔ HazardFree n f ts (products n bytes)
+  pub hazard_free : first_of (verifier_checks n f ts bytes) ≡ None → (v ≡ passed) ↔ HazardFree n f ts (products n bytes)

@@ -17,3 +17,21 @@ pub fn end_of(transitions: &[u16], t: usize) -> u16
 {
     transitions[2 * t + 1]
 }
+
+// A transition: the point where it starts, and the one where it ends.
+#[derive(Clone, Copy)]
+pub struct Transition {
+    pub start: u16,
+    pub end: u16,
+}
+
+// Transition t of the list.
+pub fn transition_at(transitions: &[u16], t: usize) -> Transition
+    requires { t < count transitions.now }
+    ensures { (result.start ≡ start transitions.now t) × (result.end ≡ end transitions.now t) }
+{
+    Transition {
+        start: start_of(transitions, t),
+        end: end_of(transitions, t),
+    }
+}

@@ -1,5 +1,5 @@
 // Illegal intersections with privileged cubes, all tested at once by bit columns.
-ghost use Rattle.std.specs.Prelude.{◌≡◌};
+ghost use Rattle.std.specs.Prelude.{◌≡◌, option_map};
 ghost use Rattle.hazard.specs.Search.{find};
 ghost use Rattle.hazard.specs.Implicant.{illegal};
 ghost use Rattle.cube.specs.Mask.{cube_of};
@@ -7,19 +7,11 @@ ghost use Rattle.cube.specs.Entry.{privileged_in};
 ghost use Rattle.context.specs.Places.{privileged_words};
 ghost use Rattle.context.specs.Context.{privileged_of};
 ghost use Rattle.legality.specs.Ready.{Ready, Rows};
-ghost use Rattle.legality.specs.Answer.{met_of};
 
 use blocks::word::run_of;
 use columns::whole::whole_word;
 use context::places::{meets, privileged, starts};
 use cube::mask::{Cube, digit_at};
-
-// The word of a privileged cube, or none.
-#[derive(Clone, Copy)]
-pub enum Met {
-    At(u64),
-    Nothing,
-}
 
 // The set of the privileged cubes that are met, and whose start point is not contained.
 fn illegal_rows(n: usize, context: &[u64], c: Cube) -> u64
@@ -32,26 +24,24 @@ fn illegal_rows(n: usize, context: &[u64], c: Cube) -> u64
     let starting = starts(context);
     let mut met = all;
     let mut contained = all;
-    let mut i = 0;
-    while i < n {
+    for i in 0..n {
         // 64 rows at most: one word in each run.
         let at = run_of(1, i, digit_at(c, i));
-        met = met & meeting[at];
-        contained = contained & starting[at];
-        i += 1;
+        met &= meeting[at];
+        contained &= starting[at];
     }
     met ^ (met & contained)
 }
 
-// The first privileged cube that the cube meets illegally: what growth and condition (c) ask.
-pub fn first_illegal(n: usize, context: &[u64], c: Cube) -> Met
+// The word of the first privileged cube that the cube meets illegally: what growth and condition (c) ask.
+pub fn first_illegal(n: usize, context: &[u64], c: Cube) -> Option<u64>
     requires { Ready n context.now }
-    ensures { met_of n result ≡ find (illegal (cube_of n c)) (privileged_of n context.now) }
+    ensures { option_map (privileged_in n) result ≡ find (illegal (cube_of n c)) (privileged_of n context.now) }
 {
     let rows = illegal_rows(n, context, c);
     if rows == 0 {
-        return Met::Nothing;
+        return None;
     }
-    let first = u64::trailing_zeros(rows) as usize;
-    Met::At(privileged(context)[first])
+    let first = rows.trailing_zeros() as usize;
+    Some(privileged(context)[first])
 }

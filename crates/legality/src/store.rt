@@ -6,7 +6,6 @@ ghost use Rattle.legality.specs.Ready.{Filled};
 use blocks::fill::blocks_into;
 use columns::relation::Relation;
 use context::places::{COUNT, MEETS, PRIVILEGED, STARTS};
-use cube::copy::copy_into;
 
 // The privileged cubes are stored, with their columns and their count; the planes stay.
 pub fn store_privileged(n: usize, privileged: &[u64], context: &mut [u64])
@@ -14,7 +13,7 @@ pub fn store_privileged(n: usize, privileged: &[u64], context: &mut [u64])
     ensures { Filled n privileged.now context.old context.new }
 {
     let end = PRIVILEGED + privileged.len();
-    copy_into(privileged, &mut context[PRIVILEGED..end]);
+    context[PRIVILEGED..end].copy_from_slice(privileged);
     blocks_into(Relation::Meets, n, privileged, &mut context[MEETS..STARTS]);
     blocks_into(
         Relation::PointInside,

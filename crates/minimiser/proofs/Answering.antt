@@ -2,7 +2,8 @@
 use mathlib.Core.Path.{◌≡◌, refl, sym, ap, ◌∙◌}
 use mathlib.Core.Bool.{Bool}
 use mathlib.Core.List.{List, [], ◌∷◌, ◌++◌, map}
-use mathlib.Core.Option.{Option, none, some}
+use Rattle.std.specs.Prelude.{Option, None, Some, Result}
+use Rattle.std.specs.declared.ops.Range.{Range}
 use Prim.Native.Nat.{ℕ, ◌-◌, ◌*◌, ◌≤◌, ◌<◌}
 use native.Mathlib.Nat.{sub-zero, mul_comm, mul-le-mul, not-le_of_lt}
 use native.Mathlib.Omega.{arith}
@@ -25,7 +26,7 @@ use Rattle.context.specs.Context.{off_in, privileged_of, table_in}
 use Rattle.context.proofs.Values.{off-table}
 use Rattle.checks.specs.Problem.{Problem}
 use Rattle.refusal.proofs.Checks.{refuse_yes, refuse_no}
-use Rattle.selection.specs.declared.select.Selected.{Selected}
+use Rattle.refusal.specs.declared.refusal.Refusal as code
 use Rattle.selection.specs.Select.{Selects}
 use Rattle.minimiser.specs.Answer.{Writable, Answered}
 use Rattle.minimiser.proofs.Writing.{writable, refused-kept}
@@ -40,7 +41,7 @@ module _ {n : ℕ} {ts w few : List ℕ} {k : ℕ} (p : Problem n (table_in n w)
   problem-few l = ap (λ (j : ℕ). map (required_in n) (take j few)) (sub-zero k) ∙ p.few' ∙ take_all (length few) (sets.required n (table_in n w) ts) (omega (arith, l, p.count'))
 
 -- A buffer with n bytes for each stored required cube has room for what select answers.
-pub stored_writable : (n : ℕ) (off : ℕ → Bool) (vs : List sets.Privileged) (required products cover : List ℕ) (r : Selected) → Selects n off vs (map (required_in n) required) products r
+pub stored_writable : (n : ℕ) (off : ℕ → Bool) (vs : List sets.Privileged) (required products cover : List ℕ) (r : Result (Range ℕ) code.Refusal) → Selects n off vs (map (required_in n) required) products r
     → length required ≤ most_required → length required * n ≤ length cover → Writable n products cover r
 stored_writable n off vs required products cover r h few room =
     let e = length-map required (required_in n) in
@@ -55,7 +56,7 @@ module _ (n : ℕ) (f ts before : List ℕ) where
   abbrev late : List (Option Refusal)
   late = room_check n f ts (length before) ∷ blocking n f ts ∷ []
 
-  pub input-declined : {q : Refusal} → some q ≡ first_of (input_checks n f ts) → Promise n f ts before before (declined q)
+  pub input-declined : {q : Refusal} → Some q ≡ first_of (input_checks n f ts) → Promise n f ts before before (declined q)
   input-declined e = promise_refused n f ts before (first_of-left (input_checks n f ts) late (sym e))
 
   module _ (ok : Accepted n f ts) where
@@ -64,9 +65,9 @@ module _ (n : ℕ) (f ts before : List ℕ) where
         let l : length before < n * length (sets.required n f ts) = rw c at h in
         promise_refused n f ts before (first_of-right (input_checks n f ts) late ok ∙ room e (refuse_yes (ltb (length before) (n * length (sets.required n f ts))) 9 (lt→ltb (length before) (n * length (sets.required n f ts)) l)))
       where
-        room : {q q' : Refusal} {o : Option Refusal} → q ≡ q' → some q' ≡ o → first_of (o ∷ blocking n f ts ∷ []) ≡ some q
-        room {o = none} e h = none-some (sym h)
-        room {o = some p} e h = sym h ∙ ap some (sym e)
+        room : {q q' : Refusal} {o : Option Refusal} → q ≡ q' → Some q' ≡ o → first_of (o ∷ blocking n f ts ∷ []) ≡ Some q
+        room {o = None} e h = none-some (sym h)
+        room {o = Some p} e h = sym h ∙ ap Some (sym e)
 
     pub room_enough : (count : ℕ) → count ≡ length (sets.required n f ts) → n * count ≤ length before → length (sets.required n f ts) * n ≤ length before
     room_enough count c l = rw (← c, mul_comm count n) l
@@ -78,15 +79,15 @@ module _ (n : ℕ) (f ts before : List ℕ) where
         enough : n * length (sets.required n f ts) ≤ length before
         enough = rw c at l
 
-        none-room : room_check n f ts (length before) ≡ none
+        none-room : room_check n f ts (length before) ≡ None
         none-room = sym (refuse_no (ltb (length before) (n * length (sets.required n f ts))) 9 (λ t. not-le_of_lt (ltb→lt (length before) (n * length (sets.required n f ts)) t) enough))
 
         checks : first_of (minimiser_checks n f ts (length before)) ≡ blocking n f ts
         checks = first_of-right (input_checks n f ts) late ok ∙ first_of-right (room_check n f ts (length before) ∷ []) (blocking n f ts ∷ []) (first_of-one (room_check n f ts (length before)) ∙ none-room) ∙ first_of-one (blocking n f ts)
 
         go : (o : Option Refusal) → blocking n f ts ≡ o → Promise n f ts before after a
-        go (some q) e = rw ((h.refused q e).0, refused-kept n (transition.off f) (sets.privileged n f ts) (sets.required n f ts) h e) (promise_refused n f ts before (checks ∙ e))
-        go none e =
+        go (Some q) e = rw ((h.refused q e).0, refused-kept n (transition.off f) (sets.privileged n f ts) (sets.required n f ts) h e) (promise_refused n f ts before (checks ∙ e))
+        go None e =
             let s = h.network e in
             let net = network_in n s.words in
             let size : length net ≡ length s.words = length-map s.words (cube_in n) in

@@ -2,7 +2,9 @@
 use mathlib.Core.Path.{◌≡◌, refl, sym, ap, ◌∙◌}
 use mathlib.Core.Bool.{Bool}
 use mathlib.Core.List.{List, ◌++◌}
-use mathlib.Core.Option.{some, some-injective}
+use Rattle.std.specs.Prelude.{Some, Result, Ok, Err}
+use Rattle.std.specs.declared.ops.Range.{Range}
+use Rattle.std.proofs.lemmas.Option.{same_Some}
 use Prim.Native.Nat.{ℕ, ◌*◌, ◌-◌, ◌≤◌}
 use native.Mathlib.Nat.{le_trans, mul-le-mul_right}
 use native.Mathlib.Omega.{arith}
@@ -14,8 +16,7 @@ use Rattle.hazard.specs.Refusal.{Refusal}
 use Rattle.hazard.specs.Minimal.{bytes_of, Minimised, written, declined}
 use Rattle.hazard.proofs.Search.{none-some}
 use Rattle.cube.specs.Entry.{network_in}
-use Rattle.selection.specs.declared.select.Selected.{Selected}
-use Rattle.selection.specs.declared.select.Selected.TheVariants.{Words, Refused}
+use Rattle.refusal.specs.declared.refusal.Refusal as code
 use Rattle.selection.specs.Choose.{blocking_of}
 use Rattle.selection.specs.Select.{KeptFrom, Selects}
 use Rattle.sequence.specs.Sorted.{Sorts}
@@ -34,16 +35,16 @@ written-room n room h = le_trans (mul-le-mul_right n h) room
 
 module _ (n : ℕ) (off : ℕ → Bool) (vs : List Privileged) (rs : List Required) where
   -- A buffer with n bytes for each required cube has room for the words.
-  pub writable : (products cover : List ℕ) (s : Selected) → Selects n off vs rs products s → length rs ≤ most_required → length rs * n ≤ length cover → Writable n products cover s
-  writable products cover (Words from to) h few room =
-      let l : to - from ≤ length rs = omega (arith, part_length products h.low h.high, h.kept.few) in
+  pub writable : (products cover : List ℕ) (s : Result (Range ℕ) code.Refusal) → Selects n off vs rs products s → length rs ≤ most_required → length rs * n ≤ length cover → Writable n products cover s
+  writable products cover (Ok places) h few room =
+      let l : places.end - places.start ≤ length rs = omega (arith, part_length products h.low h.high, h.kept.few) in
       (h.low, h.high, omega (arith, l, few), le_trans (mul-le-mul_right n l) room)
-  writable products cover (Refused q) h few room = tt
+  writable products cover (Err q) h few room = tt
 
   -- The answer, of each way to end.
-  pub answered_refused : {q : Refusal} (before : List ℕ) → blocking_of n off vs rs ≡ some q → Answered n off vs rs before before (declined q)
+  pub answered_refused : {q : Refusal} (before : List ℕ) → blocking_of n off vs rs ≡ Some q → Answered n off vs rs before before (declined q)
   answered_refused {q} before e =
-      record { refused = λ p h. (ap declined (some-injective q p (sym e ∙ h)), refl); network = λ h. none-some (sym h ∙ e) }
+      record { refused = λ p h. (ap declined (same_Some q p (sym e ∙ h)), refl); network = λ h. none-some (sym h ∙ e) }
 
   pub answered_written : {products before after : List ℕ} {from to : ℕ} (words : List ℕ) → KeptFrom n off vs rs products from to → Sorts up_to (take (to - from) (drop from products)) words
       → after ≡ bytes_of (network_in n words) ++ drop (length words * n) before → Answered n off vs rs before after (written (to - from))
@@ -60,5 +61,5 @@ module _ (n : ℕ) (off : ℕ → Bool) (vs : List Privileged) (rs : List Requir
       }
 
   -- A refusal leaves the buffer as it was.
-  pub refused-kept : {before after : List ℕ} {r : Minimised} {q : Refusal} → Answered n off vs rs before after r → blocking_of n off vs rs ≡ some q → after ≡ before
+  pub refused-kept : {before after : List ℕ} {r : Minimised} {q : Refusal} → Answered n off vs rs before after r → blocking_of n off vs rs ≡ Some q → after ≡ before
   refused-kept {q = q} h e = (h.refused q e).1

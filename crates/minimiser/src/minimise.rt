@@ -10,22 +10,26 @@ ghost use Rattle.checks.specs.Problem.{Problem};
 ghost use Rattle.selection.specs.Answer.{minimised_of};
 ghost use Rattle.minimiser.specs.Answer.{Answered};
 
-use crate::network::{network_few, network_many};
-use checks::check::{Counted, check};
+use crate::network::{FEW_COLUMNS, MOST_COLUMNS, network_sized};
+use checks::check::check;
 use checks::stored::{FEW, store_required};
 use context::places::WORDS;
 use hazard::limits::MOST_REQUIRED;
-use refusal::refusal::refuse;
-use selection::minimised::Minimised;
+use refusal::refusal::Refusal;
 
 // The network of a problem with so many required cubes that they are stored anew, in an array that has room for all.
-fn network_large(n: usize, context: &[u64], transitions: &[u16], cover: &mut [u8]) -> Minimised
+fn network_large(
+    n: usize,
+    context: &[u64],
+    transitions: &[u16],
+    cover: &mut [u8],
+) -> Result<usize, Refusal>
     requires { kinds.Ready n context.now transitions.now × Ready n context.now × (length (sets.required n (table_in n context.now) transitions.now) * n ≤ length cover.old) }
     ensures { Answered n (off_in context.now) (privileged_of n context.now) (sets.required n (table_in n context.now) transitions.now) cover.old cover.new (minimised_of result) }
 {
     let mut required = [0u64; MOST_REQUIRED];
     let count = store_required(n, context, transitions, &mut required);
-    network_many(n, context, &required[0..count], cover)
+    network_sized::<MOST_REQUIRED, MOST_COLUMNS>(n, context, &required[0..count], cover)
 }
 
 // Check 9, and the network, of a problem that the input rules accept.
@@ -36,28 +40,31 @@ fn within_room(
     few: &[u64],
     count: usize,
     cover: &mut [u8],
-) -> Minimised
+) -> Result<usize, Refusal>
     requires { Accepted n (table_in n context.now) transitions.now × Problem n (table_in n context.now) transitions.now context.now few.now count }
     ensures { Promise n (table_in n context.now) transitions.now cover.old cover.new (minimised_of result) }
 {
     if cover.len() < n * count {
-        return Minimised::Refused(refuse(9, 0, 0));
+        return Err(Refusal::ShortBuffer);
     }
     if few.len() < count {
         return network_large(n, context, transitions, cover);
     }
-    network_few(n, context, &few[0..count], cover)
+    network_sized::<FEW, FEW_COLUMNS>(n, context, &few[0..count], cover)
 }
 
 // A hazard-free network for the table and the transitions is written into the buffer, and its products are counted; or a refusal, and
 // then the buffer is as it was.
-pub fn minimise(n: usize, table: &[u8], transitions: &[u16], cover: &mut [u8]) -> Minimised
+pub fn minimise(
+    n: usize,
+    table: &[u8],
+    transitions: &[u16],
+    cover: &mut [u8],
+) -> Result<usize, Refusal>
     ensures { Promise n table.now transitions.now cover.old cover.new (minimised_of result) }
 {
     let mut context = [0u64; WORDS];
     let mut few = [0u64; FEW];
-    match check(n, table, transitions, &mut context, &mut few) {
-        Counted::Refused(r) => Minimised::Refused(r),
-        Counted::Accepted(count) => within_room(n, &context, transitions, &few, count, cover),
-    }
+    let count = check(n, table, transitions, &mut context, &mut few)?;
+    within_room(n, &context, transitions, &few, count, cover)
 }

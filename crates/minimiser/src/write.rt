@@ -11,35 +11,30 @@ ghost use Rattle.selection.specs.Answer.{minimised_of};
 ghost use Rattle.minimiser.specs.Answer.{Writable, Answered};
 
 use network_bytes::write::write_network;
-use selection::minimised::Minimised;
-use selection::select::Selected;
+use refusal::refusal::Refusal;
 use sequence::sort::sort;
+use std::ops::Range;
 
-// The words are sorted, and their bytes written. `scratch` is room for the sort.
-fn write_sorted(n: usize, words: &mut [u64], scratch: &mut [u64], cover: &mut [u8])
-    requires { (n ≤ 10) × (length words.old ≤ most_required) × (length words.old * n ≤ length cover.old) × (length words.old ≤ length scratch.old) }
+// The words are sorted, and their bytes written.
+fn write_sorted(n: usize, words: &mut [u64], cover: &mut [u8])
+    requires { (n ≤ 10) × (length words.old ≤ most_required) × (length words.old * n ≤ length cover.old) }
     ensures { Sorts up_to words.old words.new × (cover.new ≡ bytes_of (network_in n words.new) ++ drop (length words.new * n) cover.old) }
 {
-    sort(words, scratch);
+    sort(words);
     write_network(n, words, cover);
 }
 
 // What select answers, as the minimiser's answer: the words that it kept are written in sequence, or nothing where it refused.
 pub fn written(
     n: usize,
-    selected: Selected,
+    selected: Result<Range<usize>, Refusal>,
     products: &mut [u64],
-    scratch: &mut [u64],
     cover: &mut [u8],
-) -> Minimised
-    requires { (n ≤ 10) × Writable n products.old cover.old selected × (length products.old ≤ length scratch.old) }
+) -> Result<usize, Refusal>
+    requires { (n ≤ 10) × Writable n products.old cover.old selected }
     ensures { (off : ℕ → Bool) (vs : List Privileged) (rs : List Required) → Selects n off vs rs products.old selected → Answered n off vs rs cover.old cover.new (minimised_of result) }
 {
-    match selected {
-        Selected::Refused(q) => Minimised::Refused(q),
-        Selected::Words(from, to) => {
-            write_sorted(n, &mut products[from..to], scratch, cover);
-            Minimised::Products(to - from)
-        }
-    }
+    let Range { start, end } = selected?;
+    write_sorted(n, &mut products[start..end], cover);
+    Ok(end - start)
 }

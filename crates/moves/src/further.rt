@@ -7,6 +7,7 @@ ghost use Rattle.points.specs.PointWord.{WordOf};
 ghost use Rattle.moves.specs.Further.{Side, Within, moves_from, further_in};
 
 use cube::point::{bit_of, flipped};
+use points::word::points_of;
 
 // For each of the first six inputs: the bits of a word at which it is 0, and those at which it is 1.
 const SIDES: [u64; 12] = [
@@ -69,17 +70,14 @@ fn moving(set: &[u64], a: u16, w: usize, i: usize) -> u64
     across(set, w, i - 6, from)
 }
 
-// The points of word w from which some move further leads into the set. The inputs that move are the bits of `left`, one a turn.
+// The points of word w from which some move further leads into the set. The inputs that move are the bits of a ^ b, one a turn.
 pub fn further_word(n: usize, set: &[u64], a: u16, b: u16, w: usize) -> u64
     requires { (n ≤ 10) × (length set.now ≡ 16) × (a < 2 ^ n) × (b < 2 ^ n) × (w < 16) }
     ensures { WordOf (further_in n (in_set set.now) a b) w result }
 {
     let mut word = 0;
-    let mut left = a ^ b;
-    while left != 0 {
-        let i = u16::trailing_zeros(left) as usize;
-        word = word | moving(set, a, w, i);
-        left = left ^ (1u16 << i);
+    for i in points_of(0, (a ^ b) as u64) {
+        word |= moving(set, a, w, i as usize);
     }
     word
 }

@@ -26,9 +26,5 @@ pub fn last_points(n: usize, set: &[u64], s: u16, e: u16, at: Step) -> u64
     requires { (n ≤ 10) × (length set.now ≡ 16) × (s < 2 ^ n) × (e < 2 ^ n) × (at.word < 16) }
     ensures { WordOf (masked at.mask (lasts n (in_set set.now) s e)) at.word result }
 {
-    let common = set_points(set, at);
-    if common == 0 {
-        return 0;
-    }
-    common ^ (common & further_word(n, set, s, e, at.word))
+    set_points(set, at) ^ turning_points(n, set, set, s, e, at)
 }

@@ -1,16 +1,18 @@
 -- A network's bytes, product by product.
-use mathlib.Core.Path.{◌≡◌, sym, ap, ◌∙◌}
-use mathlib.Core.Bool.{Bool, true, false, not, ◌&&◌}
+use mathlib.Core.Path.{◌≡◌, refl, sym, ap, ◌∙◌}
+use mathlib.Core.Bool.{Bool, not}
 use mathlib.Core.List.{List, [], ◌∷◌}
 use Prim.Native.Nat.{ℕ, zero, suc, ◌+◌, ◌-◌, ◌*◌, ◌/◌, ◌≤◌, ◌<◌}
-use native.Mathlib.Nat.{not-suc-le-zero, le_of_suc-le-suc, sub-zero, sub-eq-zero_of_le, zero-mul, add_comm, suc-mul, mul-le-mul_right, div-add-mod', add-zero}
+use native.Mathlib.Nat.{not-suc-le-zero, le_of_suc-le-suc, zero-mul, add_comm, suc-mul, mul-le-mul_right, div-add-mod'}
 use native.Mathlib.Numerals.{add-one}
 use native.Mathlib.Omega.{arith}
-use mathlib.Core.Option.{Option, none, some, map}
-use lib.Dec.{T, leb, leb→le}
-use lib.ListN.{length, get_or, take, drop}
-use lib.Seq.{drop-cons, drop-drop, get_or-take, get_or-drop}
-use borrow.Author.Tests.{lt-leb, le-leb}
+use Rattle.std.specs.Prelude.{Option, None, Some, option_map}
+use lib.Dec.{T, ltb, leb→le}
+use Rattle.std.specs.List.{list_any}
+use lib.ListN.{length, get_or, take, drop, length-drop}
+use lib.Seq.{length-take-le, drop-drop, get_or-take, get_or-drop}
+use borrow.Author.Tests.{lt-ltb, le-ltb, lt-leb, le-leb}
+use native.Mathlib.Decide.{dec_lt}
 use Rattle.hazard.specs.Cube.{is_product}
 use Rattle.hazard.specs.Cover.{product_at}
 use Rattle.hazard.specs.Search.{first}
@@ -21,30 +23,13 @@ use Rattle.hazard.proofs.Network.{entry_at}
 use Rattle.hazard.proofs.Verdict.{products-length}
 use Rattle.network_bytes.specs.Network.{Sound}
 
--- The product at a place is looked at digit by digit: at i the whole answer is that of the digits from i on.
-pub record Digitwise (n : ℕ) (bytes : List ℕ) (at i : ℕ) : Type 0 where
-  pub low : i ≤ n
-  pub same : is_product n (take n (drop at bytes)) ≡ is_product (n - i) (take (n - i) (drop (at + i) bytes))
-
-pub digitwise_start : (n : ℕ) (bytes : List ℕ) (at : ℕ) → Digitwise n bytes at 0
-digitwise_start n bytes at = record { low = omega arith; same = rw (sub-zero, add-zero) }
-
-step : (n : ℕ) (bytes : List ℕ) (at i : ℕ) → i < n → at + n ≤ length bytes
-    → is_product (n - i) (take (n - i) (drop (at + i) bytes)) ≡ (leb (get_or bytes (at + i) 0) 2 && is_product (n - (i + 1)) (take (n - (i + 1)) (drop (at + (i + 1)) bytes)))
-step n bytes at i h l =
-    let e : n - i ≡ suc (n - (i + 1)) = omega arith in
-    let f : at + (i + 1) ≡ suc (at + i) = omega arith in
-    rw (e, f, drop-cons bytes (at + i) 0 (omega arith))
-
-module _ {n : ℕ} {bytes : List ℕ} {at i : ℕ} (s : Digitwise n bytes at i) (h : i < n) (l : at + n ≤ length bytes) where
-  pub digitwise_hit : 2 < get_or bytes (at + i) 0 → true ≡ not (is_product n (take n (drop at bytes)))
-  digitwise_hit g = sym (ap not (s.same ∙ step n bytes at i h l ∙ ap (λ (b : Bool). b && is_product (n - (i + 1)) (take (n - (i + 1)) (drop (at + (i + 1)) bytes))) (lt-leb (get_or bytes (at + i) 0) 2 g)))
-
-  pub digitwise_miss : get_or bytes (at + i) 0 ≤ 2 → Digitwise n bytes at (i + 1)
-  digitwise_miss g = record { low = omega arith; same = s.same ∙ step n bytes at i h l ∙ ap (λ (b : Bool). b && is_product (n - (i + 1)) (take (n - (i + 1)) (drop (at + (i + 1)) bytes))) (le-leb (get_or bytes (at + i) 0) 2 g) }
-
-pub digitwise_end : {n : ℕ} {bytes : List ℕ} {at i : ℕ} → Digitwise n bytes at i → n ≤ i → false ≡ not (is_product n (take n (drop at bytes)))
-digitwise_end {n} {bytes} {at} {i} s h = let e : is_product (n - i) (take (n - i) (drop (at + i) bytes)) ≡ true = rw (sub-eq-zero_of_le h) in sym (ap not (s.same ∙ e))
+-- Some byte above 2.
+pub any_bad : (l : List ℕ) → list_any (ltb 2) l ≡ not (is_product (length l) l)
+any_bad [] = refl
+any_bad (d ∷ ds) = elim (dec_lt 2 d) [
+  | yes h ↦ rw (lt-ltb 2 d h, lt-leb d 2 h)
+  | no h ↦ let l : d ≤ 2 = omega arith in rw (le-ltb 2 d l, le-leb d 2 l) (any_bad ds)
+]
 
 -- The products that a network's bytes are cut into.
 cut_at : (n count : ℕ) (bytes : List ℕ) (j : ℕ) → j < count → product_at (cut n count bytes) j ≡ take n (drop (j * n) bytes)
@@ -71,18 +56,26 @@ module _ (n : ℕ) (bytes : List ℕ) {at j : ℕ} (e : at ≡ j * n) where
   pub place_bad : j < length bytes / n → not (is_product n (take n (drop at bytes))) ≡ bad_at n bytes j
   place_bad h = rw (e, products_at n bytes j h)
 
+-- As the part of the bytes from its place on.
+pub part_bad : (n : ℕ) (bytes : List ℕ) {j : ℕ} → j < length bytes / n
+    → not (is_product (length (take (j * n + n - j * n) (drop (j * n) bytes))) (take (j * n + n - j * n) (drop (j * n) bytes))) ≡ bad_at n bytes j
+part_bad n bytes {j} h =
+    let e : j * n + n - j * n ≡ n = omega arith in
+    let r = product-room n (length bytes) j h in
+    rw (e, length-take-le n (drop (j * n) bytes) (omega (arith, length-drop (j * n) bytes))) (place_bad n bytes refl h)
+
 pub place_next : (n at j : ℕ) → at ≡ j * n → at + n ≡ (j + 1) * n
 place_next n at j e = rw (e, add-one) (sym (suc-mul j n))
 
 -- Check 12 by the places of the products.
-digits_check_lem : (n : ℕ) (bytes : List ℕ) → digits_check n (products n bytes) ≡ map (product_refusal 12) (first (bad_at n bytes) 0 (length bytes / n))
-digits_check_lem n bytes = ap (λ (k : ℕ). map (product_refusal 12) (first (bad_at n bytes) 0 k)) (products-length n bytes)
+digits_check_lem : (n : ℕ) (bytes : List ℕ) → digits_check n (products n bytes) ≡ option_map (product_refusal 12) (first (bad_at n bytes) 0 (length bytes / n))
+digits_check_lem n bytes = ap (λ (k : ℕ). option_map (product_refusal 12) (first (bad_at n bytes) 0 k)) (products-length n bytes)
 
-pub digits-found : (n : ℕ) (bytes : List ℕ) {j : ℕ} {r : Refusal} → r ≡ product_refusal 12 j → some j ≡ first (bad_at n bytes) 0 (length bytes / n) → ◌≡◌ {A = Option Refusal} (some r) (digits_check n (products n bytes))
-digits-found n bytes {j} {r} q e = ap {B = Option Refusal} some q ∙ ap (map (product_refusal 12)) e ∙ sym (digits_check_lem n bytes)
+pub digits-found : (n : ℕ) (bytes : List ℕ) {j : ℕ} {r : Refusal} → r ≡ product_refusal 12 j → Some j ≡ first (bad_at n bytes) 0 (length bytes / n) → ◌≡◌ {A = Option Refusal} (Some r) (digits_check n (products n bytes))
+digits-found n bytes {j} {r} q e = ap {B = Option Refusal} Some q ∙ ap (option_map (product_refusal 12)) e ∙ sym (digits_check_lem n bytes)
 
-pub digits-none : (n : ℕ) (bytes : List ℕ) → none ≡ first (bad_at n bytes) 0 (length bytes / n) → ◌≡◌ {A = Option Refusal} none (digits_check n (products n bytes))
-digits-none n bytes e = ap (map (product_refusal 12)) e ∙ sym (digits_check_lem n bytes)
+pub digits-none : (n : ℕ) (bytes : List ℕ) → None ≡ first (bad_at n bytes) 0 (length bytes / n) → ◌≡◌ {A = Option Refusal} None (digits_check n (products n bytes))
+digits-none n bytes e = ap (option_map (product_refusal 12)) e ∙ sym (digits_check_lem n bytes)
 
 -- The bytes of a product are at most 2.
 digit-le : (n : ℕ) (l : List ℕ) (i : ℕ) → T (is_product n l) → i < n → get_or l i 0 ≤ 2

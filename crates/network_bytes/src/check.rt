@@ -4,67 +4,47 @@ ghost use Rattle.hazard.specs.Limits.{most_products};
 ghost use Rattle.hazard.specs.Search.{first_of};
 ghost use Rattle.hazard.specs.Cube.{is_product};
 ghost use Rattle.hazard.specs.Verdict.{products, products_check, digits_check, network_checks};
-ghost use Rattle.refusal.specs.Answer.{checked_of};
+ghost use Rattle.refusal.specs.Answer.{refused_by};
 
 use hazard::limits::MOST_PRODUCTS;
-use refusal::checked::{Checked, refused};
-use refusal::refusal::refuse_product;
+use refusal::refusal::Refusal;
 
 // 11: the length is no multiple of n, or there are more products than the limit.
-pub fn check_products(n: usize, bytes: &[u8]) -> Checked
+pub fn check_products(n: usize, bytes: &[u8]) -> Result<(), Refusal>
     requires { 1 ≤ n }
-    ensures { checked_of result ≡ products_check n bytes.now }
+    ensures { refused_by result ≡ products_check n bytes.now }
 {
-    if bytes.len() % n != 0 {
-        return refused(11, 0, 0);
+    if bytes.len() % n != 0 || MOST_PRODUCTS < bytes.len() / n {
+        return Err(Refusal::NetworkLength);
     }
-    if bytes.len() / n <= MOST_PRODUCTS {
-        return Checked::Accepted;
-    }
-    refused(11, 0, 0)
+    Ok(())
 }
 
-// Some byte of the product that starts at a place is above 2.
-fn bad_product(n: usize, bytes: &[u8], at: usize) -> bool
-    requires { (n ≤ 10) × (at + n ≤ length bytes.now) }
-    ensures { result ≡ not (is_product n (take n (drop at bytes.now))) }
+// Some byte of the product is above 2.
+fn bad_product(product: &[u8]) -> bool
+    ensures { result ≡ not (is_product (length product.now) product.now) }
 {
-    let mut i = 0;
-    while i < n {
-        if 2 < bytes[at + i] {
-            return true;
-        }
-        i += 1;
-    }
-    false
+    product.iter().any(|d| 2 < *d)
 }
 
 // 12: a byte above 2; the first such product.
-pub fn check_digits(n: usize, bytes: &[u8]) -> Checked
+pub fn check_digits(n: usize, bytes: &[u8]) -> Result<(), Refusal>
     requires { (1 ≤ n) × (n ≤ 10) × (length bytes.now / n ≤ most_products) }
-    ensures { checked_of result ≡ digits_check n (products n bytes.now) }
+    ensures { refused_by result ≡ digits_check n (products n bytes.now) }
 {
-    let count = bytes.len() / n;
-    let mut at = 0;
-    let mut j = 0;
-    while j < count {
-        if bad_product(n, bytes, at) {
-            return Checked::Refused(refuse_product(12, j as u16));
+    for j in 0..bytes.len() / n {
+        if bad_product(&bytes[j * n..j * n + n]) {
+            return Err(Refusal::ProductByte { product: j as u16 });
         }
-        at += n;
-        j += 1;
     }
-    Checked::Accepted
+    Ok(())
 }
 
 // Both.
-pub fn network_checks(n: usize, bytes: &[u8]) -> Checked
+pub fn network_checks(n: usize, bytes: &[u8]) -> Result<(), Refusal>
     requires { (1 ≤ n) × (n ≤ 10) }
-    ensures { checked_of result ≡ first_of (network_checks n bytes.now) }
+    ensures { refused_by result ≡ first_of (network_checks n bytes.now) }
 {
-    let first = check_products(n, bytes);
-    let Checked::Accepted = first else {
-        return first;
-    };
+    check_products(n, bytes)?;
     check_digits(n, bytes)
 }

@@ -11,12 +11,8 @@ pub fn read_network(n: usize, bytes: &[u8], out: &mut [u64]) -> usize
     ensures { Read n bytes.now out.new result }
 {
     let count = bytes.len() / n;
-    let mut at = 0;
-    let mut j = 0;
-    while j < count {
-        out[j] = pack(0, 0, product_at(n, bytes, at));
-        at += n;
-        j += 1;
+    for j in 0..count {
+        out[j] = pack(0, 0, product_at(n, bytes, j * n));
     }
     count
 }

@@ -12,11 +12,7 @@ pub fn write_network(n: usize, products: &[u64], cover: &mut [u8])
     requires { (n ≤ 10) × (length products.now ≤ most_required) × (length products.now * n ≤ length cover.old) }
     ensures { cover.new ≡ bytes_of (network_in n products.now) ++ drop (length products.now * n) cover.old }
 {
-    let mut at = 0;
-    let mut j = 0;
-    while j < products.len() {
-        write_product(n, cube_in(products[j]), cover, at);
-        at += n;
-        j += 1;
+    for j in 0..products.len() {
+        write_product(n, cube_in(products[j]), cover, j * n);
     }
 }

@@ -1,7 +1,7 @@
 -- What is packed is read back, and every answer fits.
 use mathlib.Core.Path.{◌≡◌, refl, sym, ap, subst⁻¹, ◌∙◌}
 use mathlib.Core.List.{List, [], ◌∷◌}
-use mathlib.Core.Option.{Option, none, some}
+use Rattle.std.specs.Prelude.{Option, None, Some}
 use Prim.Native.Nat.{ℕ, ◌+◌, ◌*◌, ◌/◌, ◌%◌, ◌≤◌, ◌<◌}
 use native.Mathlib.Nat.{zero-add, mod-eq_of_lt, div-eq_of_lt, add-mul-div_left, add-mul-mod_self_left}
 use native.Mathlib.Omega.{arith}
@@ -10,10 +10,10 @@ use lib.ListN.{length}
 use Rattle.hazard.specs.Search.{first_of}
 use Rattle.hazard.specs.Refusal.{Refusal, input_checks, Accepted}
 use Rattle.hazard.specs.Minimal.{room_check, blocking, minimiser_checks, Minimised, written, declined, Promise}
-use Rattle.hazard.specs.Verdict.{Fields, fields_of, Verdict, Verified}
+use Rattle.hazard.specs.Verdict.{Fields}
 use Rattle.hazard.proofs.Test.{cond_no}
 use Rattle.hazard.proofs.Search.{first_of-append}
-use Rattle.hazard.proofs.Bounds.{minimiser_bounds, minimal_few, verdict_bounds}
+use Rattle.hazard.proofs.Bounds.{minimiser_bounds, minimal_few}
 use Rattle.packing.specs.Packed.{unpacked_refusal, unpacked_answer, unpacked_verdict, RefusalFits, AnswerFits}
 
 -- The low place and the rest of a number.
@@ -27,10 +27,10 @@ high m x y h = let p : 0 < m = omega arith in add-mul-div_left x y p ∙ rw (div
 abbrev pub packed_refusal : Refusal → ℕ
 packed_refusal q = q.number + 256 * (q.transition + 65536 * (q.point + 65536 * (q.steps + 256 * q.lowest)))
 
-pub refusal_exact : (q : Refusal) → RefusalFits q → unpacked_refusal (packed_refusal q) ≡ q
-refusal_exact q h =
-    same (low 256 q.number t h.number) (rw a (low 65536 q.transition u h.transition)) (rw (a, b) (low 65536 q.point v h.point))
-    (rw (a, b, c) (low 256 q.steps q.lowest h.steps)) (rw (a, b, c) (high 256 q.steps q.lowest h.steps)) (sym h.product)
+pub refusal_exact : (q : Refusal) → RefusalFits q → (w : ℕ) → w ≡ packed_refusal q → unpacked_refusal w ≡ q
+refusal_exact q h w e =
+    rw e (same (low 256 q.number t h.number) (rw a (low 65536 q.transition u h.transition)) (rw (a, b) (low 65536 q.point v h.point))
+    (rw (a, b, c) (low 256 q.steps q.lowest h.steps)) (rw (a, b, c) (high 256 q.steps q.lowest h.steps)) (sym h.product))
   where
     v : ℕ
     v = q.steps + 256 * q.lowest
@@ -60,20 +60,20 @@ declined_exact w {q} h e =
     let n : w % 256 ≡ q.number = ap (λ (r : Refusal). r.number) e in
     cond_no (eqb (w % 256) 0) _ _ (λ t. omega (arith, eqb→eq (w % 256) 0 t)) ∙ ap declined e
 
-pub written_exact : (k : ℕ) → unpacked_answer (256 * k) ≡ written k
-written_exact k =
-    let l : (256 * k) % 256 ≡ 0 = omega arith in
-    let h : (256 * k) / 256 ≡ k = omega arith in
+pub written_exact : (k w : ℕ) → w ≡ 256 * k → unpacked_answer w ≡ written k
+written_exact k w e =
+    let l : w % 256 ≡ 0 = omega arith in
+    let h : w / 256 ≡ k = omega arith in
     rw (l, h)
 
 -- A verdict's fields in their places.
 abbrev pub packed_fields : Fields → ℕ
 packed_fields m = m.number + 256 * (m.refusal + 256 * (m.product + 65536 * (m.transition + 65536 * m.point)))
 
-pub fields_exact : (m : Fields) → m.number < 256 → m.refusal < 256 → m.product < 65536 → m.transition < 65536 → unpacked_verdict (packed_fields m) ≡ m
-fields_exact m hn hr hp ht =
-    same (low 256 m.number t hn) (rw a (low 256 m.refusal u hr)) (rw (a, b) (low 65536 m.product v hp))
-    (rw (a, b, c) (low 65536 m.transition m.point ht)) (rw (a, b, c) (high 65536 m.transition m.point ht))
+pub fields_exact : (m : Fields) → m.number < 256 → m.refusal < 256 → m.product < 65536 → m.transition < 65536 → (w : ℕ) → w ≡ packed_fields m → unpacked_verdict w ≡ m
+fields_exact m hn hr hp ht w e =
+    rw e (same (low 256 m.number t hn) (rw a (low 256 m.refusal u hr)) (rw (a, b) (low 65536 m.product v hp))
+    (rw (a, b, c) (low 65536 m.transition m.point ht)) (rw (a, b, c) (high 65536 m.transition m.point ht)))
   where
     v : ℕ
     v = m.transition + 65536 * m.point
@@ -98,23 +98,17 @@ fields_exact m hn hr hp ht =
     same a b c d e = rw (a, b, c, d, e)
 
 module _ {n : ℕ} {f ts : List ℕ} where
-  -- Every answer that the minimiser may give fits,
+  -- Every answer that the minimiser may give fits.
   pub promise_fits : {before after : List ℕ} {r : Minimised} → Promise n f ts before after r → AnswerFits r
   promise_fits {before} {after} {r} p = go (first_of (minimiser_checks n f ts (length before))) refl
     where
       go : (o : Option Refusal) → first_of (minimiser_checks n f ts (length before)) ≡ o → AnswerFits r
-      go (some q) e =
+      go (Some q) e =
           let b = minimiser_bounds n f ts (length before) e in
           subst⁻¹ AnswerFits (p.refused q e).0
           (record { number-low = b.number-low; number = omega arith; transition = omega arith; point = omega arith; steps = omega arith; lowest = omega arith; product = omega arith })
-      go none e =
+      go None e =
           let (net, s, m, w) = p.network e in
           let a : Accepted n f ts = ((first_of-append (input_checks n f ts) (room_check n f ts (length before) ∷ blocking n f ts ∷ [])).0 e).0 in
           let l : length net < 65536 = omega (arith, minimal_few n f ts a m) in
           subst⁻¹ AnswerFits s l
-
-  -- and so does every verdict's refusal.
-  pub verified-fits : {bytes : List ℕ} {v : Verdict} → Verified n f ts bytes v → (fields_of v).refusal < 256
-  verified-fits {bytes} {v} p =
-      let e : (fields_of v).refusal ≡ _ = ap (λ (m : Fields). m.refusal) p.fields in
-      omega (arith, (verdict_bounds n f ts bytes).refusal)

@@ -1,7 +1,7 @@
 -- What a walk finds, and the definitions' searches.
 use mathlib.Core.Path.{◌≡◌, refl, sym, ap, ap₂, ◌∙◌}
 use mathlib.Core.Bool.{Bool, true, false, ◌&&◌}
-use mathlib.Core.Option.{Option, none, some}
+use Rattle.std.specs.Prelude.{Option, None, Some}
 use Prim.Native.Nat.{ℕ, ◌^◌, ◌≤◌, ◌<◌}
 use native.Mathlib.Omega.{arith}
 use native.Mathlib.Decide.{dec_lt}
@@ -25,12 +25,12 @@ pub first_agrees : {test like : ℕ → Bool} {size : ℕ} → Agrees test like 
 first_agrees {test} {like} {size} a l = go (first like 0 size) (first-is like 0 size)
   where
     go : (o : Option ℕ) → First like 0 size o → first test 0 1024 ≡ o
-    go none (nowhere k) = sym (first-not test 1024 (λ y u. out y u (dec_lt y size)))
+    go None (nowhere k) = sym (first-not test 1024 (λ y u. out y u (dec_lt y size)))
       where
         out : (y : ℕ) → y < 1024 → Dec (y < size) → test y ≡ false
         out y u (yes i) = a.in' y i ∙ isnt (like y) (k y (omega arith) (omega arith))
         out y u (no i) = a.past y (omega (arith, i)) u
-    go (some x) (lowest t b u k) = sym (first_at test x 1024 (a.in' x (omega arith) ∙ is {b = like x} t) (omega arith) (λ y i. a.in' y (omega arith) ∙ isnt (like y) (k y (omega arith) i)))
+    go (Some x) (lowest t b u k) = sym (first_at test x 1024 (a.in' x (omega arith) ∙ is {b = like x} t) (omega arith) (λ y i. a.in' y (omega arith) ∙ isnt (like y) (k y (omega arith) i)))
 
 -- A walk over the points that pass a test.
 pub walk_agrees : {n : ℕ} {k : Walk} {points : ℕ → Bool} → Walks n k points → n ≤ 10 → {test like : ℕ → Bool} → ((x : ℕ) → x < 2 ^ n → test x ≡ like x) → Agrees (λ x. visits k x && test x) (λ x. points x && like x) (2 ^ n)

@@ -1,5 +1,6 @@
 pub mod Masked
 pub mod Stepping
+pub mod Turning
 pub mod Looking
 pub mod Agree
 pub mod Members

@@ -2,7 +2,7 @@
 use mathlib.Core.Path.{◌≡◌, sym, ap, ◌∙◌}
 use mathlib.Core.Logic.{◌≢◌}
 use mathlib.Core.Bool.{Bool, true, false, ◌&&◌}
-use mathlib.Core.Option.{none, some}
+use Rattle.std.specs.Prelude.{None, Some}
 use Prim.Native.Nat.{ℕ, ◌+◌, ◌*◌, ◌/◌, ◌%◌, ◌≤◌, ◌<◌}
 use native.Mathlib.Decide.{dec_lt}
 use native.Mathlib.Omega.{arith}
@@ -28,9 +28,6 @@ visit_gap t test x a b l = ap (λ (c : Bool). c && test x) (t.gap x a b l)
 pub record Looked (k : Walk) (test : ℕ → Bool) (s : Step) : Type 0 where
   pub at' : At k s
   pub none : (x : ℕ) → x / 64 < 16 → x / 64 < s.word → (visits k x && test x) ≡ false
-
-pub looked_start : {k : Walk} {s : Step} → Steps k 0 s → (test : ℕ → Bool) → Looked k test s
-looked_start t test = record { at' = t.at'; none = λ x u l. visit_gap t test x (omega arith) l u }
 
 module _ {k : Walk} {test : ℕ → Bool} {s : Step} (h : Looked k test s) where
   module _ (few : s.word < 16) {r : ℕ} (p : WordOf (masked s.mask test) s.word r) where
@@ -63,10 +60,10 @@ module _ {k : Walk} {test : ℕ → Bool} {s : Step} (h : Looked k test s) where
           let p : (64 * s.word + count_trailing_zeros 64 r) % 64 ≡ count_trailing_zeros 64 r = omega (arith, least_bit.inside) in
           sym (word.bits (64 * s.word + count_trailing_zeros 64 r) q) ∙ ap (λ (b : ℕ). eqb (bit r b) 1) p ∙ ap (λ (b : ℕ). eqb b 1) least_bit.set
 
-      pub looked_hit : some (64 * s.word + count_trailing_zeros 64 r) ≡ lowest_on k test
+      pub looked_hit : Some (64 * s.word + count_trailing_zeros 64 r) ≡ lowest_on k test
       unfolding lowest_on
       looked_hit = first_at (λ x. visits k x && test x) (64 * s.word + count_trailing_zeros 64 r) 1024 here (omega (arith, least_bit.inside)) below
 
-  pub looked_end : 16 ≤ s.word → none ≡ lowest_on k test
+  pub looked_end : 16 ≤ s.word → None ≡ lowest_on k test
   unfolding lowest_on
   looked_end l = first-not (λ x. visits k x && test x) 1024 (λ y b. h.none y (omega arith) (omega arith))

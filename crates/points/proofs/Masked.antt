@@ -10,7 +10,8 @@ use lib.Bits.{bit_and, bit_xor, and_le_l, and_le_r, xor_lt}
 use lib.ListN.{get_or}
 use Rattle.hazard.specs.Cube.{bit}
 use Rattle.cube.specs.PointSet.{in_set}
-use Rattle.cube.proofs.WordMask.{no_bit, and_test, both_test, less_test}
+use Rattle.cube.proofs.Bits.{bit_case2}
+use Rattle.cube.proofs.WordMask.{no_bit, and_test, both_test, xor-bits}
 use Rattle.points.specs.PointWord.{WordOf, masked}
 
 -- A test that holds does not fail.
@@ -32,9 +33,6 @@ word_as h s = record { small = s.small; bits = λ x q. s.bits x q ∙ h x }
 module _ {s t : ℕ → Bool} {w r q : ℕ} (p : WordOf s w r) (g : WordOf t w q) where
   word_and : WordOf (λ x. s x && t x) w (bit_and r q)
   word_and = record { small = lt_of_le_of_lt (and_le_l r q) p.small; bits = λ x e. both_test r q (x % 64) ∙ ap₂ ◌&&◌ (p.bits x e) (g.bits x e) }
-
-  word_but : WordOf (λ x. s x && not (t x)) w (bit_xor r (bit_and r q))
-  word_but = record { small = xor_lt 64 r (bit_and r q) p.small (lt_of_le_of_lt (and_le_l r q) p.small); bits = λ x e. less_test r q (x % 64) ∙ ap₂ (λ (b c : Bool). b && not c) (p.bits x e) (g.bits x e) }
 
 -- No point passes.
 pub none_passes : {test : ℕ → Bool} {w r : ℕ} → WordOf test w r → r ≡ 0 → (x : ℕ) → x / 64 ≡ w → test x ≡ false
@@ -58,5 +56,22 @@ module _ (m : ℕ) (s t : ℕ → Bool) {w r q : ℕ} (p : WordOf (masked m s) w
   pub mask_and : WordOf (masked m (λ x. s x && t x)) w (bit_and r q)
   mask_and = word_as {s = λ x. masked m s x && t x} (λ x. and_assoc (eqb (bit m (x % 64)) 1) (s x) (t x)) (word_and p g)
 
-  pub mask_but : WordOf (masked m (λ x. s x && not (t x))) w (bit_xor r (bit_and r q))
-  mask_but = word_as {s = λ x. masked m s x && not (t x)} (λ x. and_assoc (eqb (bit m (x % 64)) 1) (s x) (not (t x))) (word_but p g)
+-- The points that pass the first test, without those that pass both.
+abbrev but : Bool → Bool → Bool
+but true c = not c
+but false c = c
+
+but_bit : (a b : ℕ) → eqb (bit_xor (a % 2) (b % 2)) 1 ≡ but (eqb (a % 2) 1) (eqb (b % 2) 1)
+but_bit = bit_case2 (λ a b. eqb (bit_xor a b) 1 ≡ but (eqb a 1) (eqb b 1)) refl refl refl refl
+
+but_both : (a b c : Bool) → but (a && b) (a && (b && c)) ≡ (a && (b && not c))
+but_both true true c = refl
+but_both true false c = refl
+but_both false b c = refl
+
+pub mask_but : (m : ℕ) (s t : ℕ → Bool) {w r q : ℕ} → WordOf (masked m s) w r → WordOf (masked m (λ x. s x && t x)) w q → WordOf (masked m (λ x. s x && not (t x))) w (bit_xor r q)
+mask_but m s t {w} {r} {q} p g =
+    record {
+      small = xor_lt 64 r q p.small g.small;
+      bits = λ x e. ap (λ (y : ℕ). eqb y 1) (xor-bits r q (x % 64)) ∙ but_bit (r / 2 ^ (x % 64)) (q / 2 ^ (x % 64)) ∙ ap₂ but (p.bits x e) (g.bits x e) ∙ but_both (eqb (bit m (x % 64)) 1) (s x) (t x);
+    }

@@ -4,20 +4,23 @@ use mathlib.Core.Logic.{◌≢◌}
 use mathlib.Core.Bool.{Bool, true, false, ◌&&◌}
 use mathlib.Core.List.{List, [], ◌∷◌, ◌++◌, append-nil}
 use Prim.Native.Nat.{ℕ, zero, suc, ◌+◌, ◌-◌, ◌*◌, ◌/◌, ◌%◌, ◌^◌, ◌≤◌, ◌<◌}
-use native.Mathlib.Nat.{add-zero, zero-add}
+use native.Mathlib.Nat.{add-zero, zero-add, one-mul, mod-eq_of_lt}
 use native.Mathlib.Numerals.{add-one}
 use native.Mathlib.Decide.{ℕ_discrete, dec_lt}
 use native.Mathlib.Omega.{arith}
+use lib.Bits.{bit_xor}
 use lib.Dec.{eqb}
 use lib.Count.{count_trailing_zeros}
-use lib.Pow.{pow_pos}
+use lib.Pow.{pow-lt}
 use borrow.Author.Tests.{eq-eqb}
+use Rattle.std.specs.List.{AllByRecursion}
 use Rattle.hazard.specs.Search.{those}
 use Rattle.hazard.specs.Cube.{bit, flip}
 use Rattle.hazard.proofs.Test.{so_not}
-use Rattle.hazard.proofs.Point.{flip_down, flip-same, flip-other}
+use Rattle.hazard.proofs.Point.{flip-same, flip-other}
 use Rattle.cube.proofs.Scan.{left, those_skip}
 use Rattle.cube.proofs.ByWords.{Lowest, lowest-bit}
+use Rattle.cube.proofs.Points.{flip-xor}
 use Rattle.cube.proofs.WordMask.{no_bit}
 use Rattle.points.specs.PointWord.{WordOf, points_in, Below}
 use Rattle.points.specs.declared.walk.Walk.{Walk}
@@ -57,6 +60,15 @@ those-none t from (suc size) h = go (t from) (h from (omega arith) (omega arith)
   where
     go : (b : Bool) → b ≡ false → those t (suc from) size ≡ [] → ◌≡◌ {A = List ℕ} (elim b [ true ↦ from ∷ those t (suc from) size | false ↦ those t (suc from) size ]) []
     go true e ih = absurd (true-false e)
+    go false e ih = ih
+
+-- What holds of each number that passes holds of each number of the list.
+those_all : (P : ℕ → Type 0) (t : ℕ → Bool) (from size : ℕ) → ((x : ℕ) → from ≤ x → x < from + size → t x ≡ true → P x) → AllByRecursion P (those t from size)
+those_all P t from zero h = tt
+those_all P t from (suc size) h = go (t from) (h from (omega arith) (omega arith)) (those_all P t (suc from) size (λ x a b. h x (omega arith) (omega arith)))
+  where
+    go : (b : Bool) → (b ≡ true → P from) → AllByRecursion P (those t (suc from) size) → AllByRecursion P (elim b [ true ↦ from ∷ those t (suc from) size | false ↦ those t (suc from) size ])
+    go true e ih = (e refl, ih)
     go false e ih = ih
 
 -- The points of the words from w on that pass.
@@ -102,6 +114,11 @@ pub points_none : (w : ℕ) → points_in w 0 ≡ []
 unfolding points_in
 points_none w = those-none (λ x. eqb (bit 0 (x % 64)) 1) (64 * w) 64 (λ x a b. ap (λ (k : ℕ). eqb k 1) (no_bit 0 (x % 64) refl))
 
+-- The points of a word whose points are all below size.
+pub points_below : {size w r : ℕ} → Below size w r → AllByRecursion (λ x. x < size) (points_in w r)
+unfolding points_in
+points_below {size} {w} {r} s = those_all (λ x. x < size) (λ x. eqb (bit r (x % 64)) 1) (64 * w) 64 (λ x a b e. elim (dec_lt x size) [ yes l ↦ l | no l ↦ absurd (true-false (sym e ∙ s.none x (omega arith) (omega arith))) ])
+
 -- The lowest that passes, and those above it.
 those_hit : (t : ℕ → Bool) (m gap from to : ℕ) → from + gap ≡ to → to < m → t to ≡ true → ((z : ℕ) → from ≤ z → z < to → t z ≡ false) → those t from (m - from) ≡ to ∷ those t (to + 1) (m - (to + 1))
 those_hit t m gap from to e l h below = those_skip t m gap from to e (λ z a b c. so_not (below z a b)) ∙ rw (left m to l, h, those, ← add-one to)
@@ -144,22 +161,9 @@ module _ (w r : ℕ) (h : r < 2 ^ 64) (ne : r ≢ 0) where
       ∙ sym (those_skip q (64 * w + 64) (count_trailing_zeros 64 r + 1) (64 * w) (at + 1) (omega arith) (λ z a b c. so_not (lower z a b)))
       ∙ ap (those q (64 * w)) size)
 
-  -- The word without its lowest bit is less, and its points are below what the word's were.
-  pub cleared_less : flip r (count_trailing_zeros 64 r) < r
-  cleared_less = let f = flip_down r (count_trailing_zeros 64 r) (λ z. omega (arith, low.set, z)) in omega (arith, f, pow_pos (count_trailing_zeros 64 r))
-
-  pub cleared_below : {size : ℕ} → Below size w r → Below size w (flip r (count_trailing_zeros 64 r))
-  cleared_below b =
-      record {
-        none = λ x e l. elim (ℕ_discrete (x % 64) (count_trailing_zeros 64 r)) [
-          | yes g ↦ ap (λ (k : ℕ). eqb k 1) (ap (bit (flip r (count_trailing_zeros 64 r))) g ∙ flip-same r (count_trailing_zeros 64 r) ∙ ap (λ (k : ℕ). 1 - k) low.set)
-          | no g ↦ ap (λ (k : ℕ). eqb k 1) (flip-other r (count_trailing_zeros 64 r) (x % 64) (λ u. g (sym u))) ∙ b.none x e l
-        ];
-      }
-
-  pub lowest_below : {size : ℕ} → Below size w r → at < size
-  lowest_below {size} b =
-      elim (dec_lt at size) [
-        | yes l ↦ l
-        | no l ↦ let e : at / 64 ≡ w = omega (arith, low.inside) in absurd (true-false (sym (eq-eqb (bit r (at % 64)) 1 (ap (bit r) at_bit ∙ low.set)) ∙ b.none at e (omega (arith, l))))
-      ]
+  -- The code clears the bit by xor.
+  pub points_next : points_in w r ≡ (64 * w + count_trailing_zeros 64 r) ∷ points_in w (bit_xor r ((1 * 2 ^ count_trailing_zeros 64 r) % 2 ^ 64))
+  points_next =
+      let b = count_trailing_zeros 64 r in
+      let e : bit_xor r ((1 * 2 ^ b) % 2 ^ 64) ≡ flip r b = ap (bit_xor r) (ap (λ (x : ℕ). x % 2 ^ 64) (one-mul (2 ^ b)) ∙ mod-eq_of_lt (pow-lt {i = b} {j = 64} low.inside)) ∙ flip-xor r b in
+      points_more ∙ ap (λ (q : ℕ). at ∷ points_in w q) (sym e)

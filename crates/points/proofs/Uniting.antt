@@ -1,12 +1,12 @@
 -- A loop over the steps of a walk that takes its points into a set.
-use mathlib.Core.Path.{◌≡◌, refl, sym, ap, ap₂, ◌∙◌}
-use mathlib.Core.Bool.{Bool, ◌||◌, ◌&&◌, or-false}
+use mathlib.Core.Path.{◌≡◌, sym, ap, ap₂, ◌∙◌}
+use mathlib.Core.Bool.{Bool, ◌||◌, or-false}
 use mathlib.Core.List.{List}
-use Prim.Native.Nat.{ℕ, ◌+◌, ◌/◌, ◌%◌, ◌^◌, ◌≤◌, ◌<◌}
+use Prim.Native.Nat.{ℕ, ◌+◌, ◌/◌, ◌%◌, ◌≤◌, ◌<◌}
 use native.Mathlib.Decide.{ℕ_discrete, dec_lt}
 use native.Mathlib.Omega.{arith}
 use lib.Bits.{bit_or}
-use lib.Dec.{eqb, ltb}
+use lib.Dec.{eqb}
 use lib.ListN.{length, get_or, set, length-set}
 use lib.Seq.{get_or-set_same, get_or-set_other}
 use Rattle.hazard.specs.Cube.{bit}
@@ -14,8 +14,7 @@ use Rattle.cube.specs.PointSet.{in_set}
 use Rattle.cube.proofs.WordMask.{or_test}
 use Rattle.points.specs.declared.walk.Walk.{Walk}
 use Rattle.points.specs.declared.walk.Step.{Step}
-use Rattle.points.specs.Walk.{visits, Walks, At, Steps}
-use Rattle.points.specs.Union.{Joined}
+use Rattle.points.specs.Walk.{visits, At, Steps}
 
 -- The words before the step have the walk's points, the others are as they were.
 pub record Uniting (k : Walk) (before after : List ℕ) (s : Step) : Type 0 where
@@ -23,15 +22,6 @@ pub record Uniting (k : Walk) (before after : List ℕ) (s : Step) : Type 0 wher
   pub long : length after ≡ length before
   pub done : (x : ℕ) → x / 64 < 16 → x / 64 < s.word → in_set after x ≡ (in_set before x || visits k x)
   pub rest : (w : ℕ) → s.word ≤ w → get_or after w 0 ≡ get_or before w 0
-
-pub uniting_start : {k : Walk} {s : Step} (set : List ℕ) → Steps k 0 s → Uniting k set set s
-uniting_start {k} words t =
-    record {
-      at' = t.at';
-      long = refl;
-      done = λ x u l. sym (or-false (in_set words x)) ∙ ap (λ (b : Bool). in_set words x || b) (sym (t.gap x (omega arith) l u));
-      rest = λ w l. refl;
-    }
 
 pub uniting_more : {k : Walk} {before after : List ℕ} {s t : Step} → Uniting k before after s → length before ≡ 16 → s.word < 16 → Steps k (s.word + 1) t
     → Uniting k before (set after s.word (bit_or (get_or after s.word 0) s.mask)) t
@@ -60,7 +50,3 @@ uniting_more {k} {before} {after} {s} {t} h size l q =
     go x u v (no ne) (no d) =
         kept x ne ∙ ap (λ (y : ℕ). eqb (bit y (x % 64)) 1) (h.rest (x / 64) (omega (arith, d)))
         ∙ sym (or-false (in_set before x)) ∙ ap (λ (b : Bool). in_set before x || b) (sym (q.gap x (omega (arith, ne, d)) v u))
-
-pub uniting_end : {n : ℕ} {k : Walk} {test : ℕ → Bool} {before after : List ℕ} {s : Step} → Walks n k test → Uniting k before after s → 16 ≤ s.word
-    → Joined (λ x. test x && ltb x (2 ^ n)) before after
-uniting_end {before = before} w h l = record { long = h.long; is = λ x b. h.done x (omega arith) (omega arith) ∙ ap (λ (c : Bool). in_set before x || c) (w.is x b) }

@@ -1,4 +1,3 @@
 pub mod PointWord
 pub mod Walk
-pub mod Found
 pub mod Union

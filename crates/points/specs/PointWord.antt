@@ -3,6 +3,7 @@ use Rattle.std.specs.Prelude.{◌≡◌, Bool, false, ◌&&◌, List, ℕ, ◌*�
 use Rattle.hazard.specs.Search.{those}
 use Rattle.hazard.specs.Cube.{bit}
 use Rattle.cube.specs.PointSet.{in_set}
+use Rattle.points.specs.declared.word.Points.{Points}
 
 -- The bits of r are the points of word w that pass the test.
 pub record WordOf (test : ℕ → Bool) (w r : ℕ) : Type 0 where
@@ -16,6 +17,10 @@ masked m test x = eqb (bit m (x % 64)) 1 && test x
 -- The points of word w that are bits of r, ascending.
 unfoldable pub points_in : ℕ → ℕ → List ℕ
 points_in w r = those (λ x. eqb (bit r (x % 64)) 1) (64 * w) 64
+
+-- The points that are still to come.
+abbrev pub points_left : Points → List ℕ
+points_left s = points_in s.word s.left
 
 -- They are all below size.
 pub record Below (size w r : ℕ) : Type 0 where

@@ -1,7 +1,7 @@
 -- The points of a cube by words of 64, without those of another one.
-use Rattle.std.specs.Prelude.{◌≡◌, Bool, false, not, cond, ◌&&◌, ℕ, ◌/◌, ◌%◌, ◌^◌, ◌≤◌, ◌<◌, T, eqb, ltb}
+use Rattle.std.specs.Prelude.{◌≡◌, Bool, false, not, cond, ◌&&◌, ℕ, ◌+◌, ◌/◌, ◌%◌, ◌^◌, ◌≤◌, ◌<◌, T, eqb, ltb}
 use Rattle.std.specs.Int.Bits.{bit_and, bit_xor}
-use Rattle.std.proofs.Math.Option.{Option}
+use Rattle.std.specs.Prelude.{Option, MatchOption}
 use Rattle.hazard.specs.Search.{first}
 use Rattle.hazard.specs.Cube.{bit, has}
 use Rattle.cube.specs.Mask.{cube_of, Clean}
@@ -9,6 +9,7 @@ use Rattle.cube.specs.WordMask.{differs}
 use Rattle.cube.specs.declared.mask.Cube.{Cube}
 use Rattle.points.specs.declared.walk.Walk.{Walk}
 use Rattle.points.specs.declared.walk.Step.{Step}
+use Rattle.points.specs.declared.walk.Walking.{Walking}
 
 -- The cube r of ten inputs has the points of the cube c of n inputs: its further literals are 0.
 pub record Ten (n : ℕ) (c r : Cube) : Type 0 where
@@ -47,3 +48,11 @@ pub record Steps (k : Walk) (from : ℕ) (s : Step) : Type 0 where
   pub later : from ≤ s.word
   pub at' : At k s
   pub gap : (x : ℕ) → from ≤ x / 64 → x / 64 < s.word → x / 64 < 16 → visits k x ≡ false
+
+-- The step that is next stands in the walk.
+abbrev pub Stands : Walking → Type 0
+Stands s = Clean 4 s.walk.words × At s.walk s.next
+
+-- What was next was given, and the step after it is next; or no word of the 16 was left.
+abbrev pub Stepped : Walking → Option Step → Walking → Type 0
+Stepped s r t = MatchOption r (16 ≤ s.next.word) (λ x. (x ≡ s.next) × (x.word < 16) × (t.walk ≡ s.walk) × Steps s.walk (x.word + 1) t.next)

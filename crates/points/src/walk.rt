@@ -1,9 +1,10 @@
 // The words that have points of a cube, one after another, each with the bits of it that are points: inputs 0 to 5 choose the bit, the
 // inputs from 6 on choose the word. The points of another cube can be left out.
-ghost use Rattle.std.specs.Prelude.{◌≡◌, not, ◌&&◌, ◌+◌, ◌≤◌, ◌<◌, ◌^◌, T};
+ghost use Rattle.std.specs.Prelude.{◌≡◌, not, ◌&&◌, ◌+◌, ◌-◌, ◌≤◌, ◌<◌, ◌^◌, T};
 ghost use Rattle.hazard.specs.Cube.{has};
 ghost use Rattle.cube.specs.Mask.{cube_of, Clean};
-ghost use Rattle.points.specs.Walk.{Ten, Walks, bits_at, Steps};
+ghost use Rattle.std.specs.Iterator.{at_most};
+ghost use Rattle.points.specs.Walk.{Ten, Walks, bits_at, Steps, Stands, Stepped};
 
 use cube::mask::Cube;
 use cube::point::next;
@@ -77,7 +78,7 @@ fn bits_at(k: Walk, w: usize) -> u64
 }
 
 // The first step.
-pub fn first_step(k: Walk) -> Step
+fn first_step(k: Walk) -> Step
     requires { Clean 4 k.words }
     ensures { Steps k 0 result }
 {
@@ -89,7 +90,7 @@ pub fn first_step(k: Walk) -> Step
 }
 
 // The step after s.
-pub fn next_step(k: Walk, s: Step) -> Step
+fn next_step(k: Walk, s: Step) -> Step
     requires { Clean 4 k.words × (s.word < 16) × T (has (cube_of 4 k.words) s.word) }
     ensures { Steps k (s.word + 1) result }
 {
@@ -97,5 +98,42 @@ pub fn next_step(k: Walk, s: Step) -> Step
     Step {
         word: w,
         mask: bits_at(k, w),
+    }
+}
+
+// A walk under way, with the step that is next.
+#[derive(Drop)]
+pub struct Walking {
+    walk: Walk,
+    next: Step,
+}
+
+// The steps of a walk, one after another.
+pub fn steps_of(k: Walk) -> Walking
+    requires { Clean 4 k.words }
+    ensures { (result.walk ≡ k) × Steps k 0 result.next }
+{
+    Walking {
+        walk: k,
+        next: first_step(k),
+    }
+}
+
+impl Iterator for Walking {
+    type Item = Step;
+
+    ghost can_next = { Stands };
+
+    ghost next_gives = { Stepped };
+
+    ghost remaining = { λ s. at_most (16 - s.next.word) };
+
+    fn next(&mut self) -> Option<Step> {
+        let step = self.next;
+        if step.word < 16 {
+            self.next = next_step(self.walk, step);
+            return Some(step);
+        }
+        None
     }
 }

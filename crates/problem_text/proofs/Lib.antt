@@ -3,9 +3,6 @@ pub mod Numbers
 pub mod Transitions
 pub mod Tables
 pub mod Forms
-pub mod Digits
-pub mod Ends
-pub mod Cells
 pub mod Listing
 pub mod Readings
 pub mod Examples

@@ -1,7 +1,7 @@
 -- The loop that reads the transitions.
 use mathlib.Core.Path.{◌≡◌, refl, sym, ap, ◌∙◌}
 use mathlib.Core.List.{List, [], ◌∷◌, ◌++◌, append_assoc, append-nil}
-use mathlib.Core.Option.{none, some}
+use Rattle.std.specs.Prelude.{None, Some}
 use Prim.Native.Nat.{ℕ, zero, suc, ◌+◌, ◌*◌, ◌≤◌, ◌<◌}
 use native.Mathlib.Numerals.{add-one}
 use native.Mathlib.Omega.{arith}
@@ -10,7 +10,6 @@ use lib.Seq.{drop-cons, take-suc-set}
 use Rattle.problem_text.specs.Decimal.{decimal}
 use Rattle.problem_text.specs.Form.{newline, space, transition_lines, flat, Numbers}
 use Rattle.problem_text.specs.Read.{transition_line, Lines, lines, other}
-use Rattle.problem_text.specs.declared.count.Count.TheVariants as count
 use Rattle.problem_text.proofs.Decimal.{decimal-long}
 use Rattle.problem_text.proofs.Transitions.{Line, line_spelled, lines_prefix, lines_none}
 
@@ -48,28 +47,24 @@ take_two room k a b h =
     ∙ ap (λ (l : List ℕ). l ++ (b ∷ [])) (take-suc-set room k a (omega arith)) ∙ append_assoc (take k room) (a ∷ []) (b ∷ []))
 
 -- The lines up to a place are read, and their numbers stand in the room. A number takes at least two bytes of text.
-pub record Listing (text : List ℕ) (from : ℕ) (before room : List ℕ) (k at : ℕ) : Type 0 where
+pub record Listing (text : List ℕ) (from : ℕ) (room : List ℕ) (k at : ℕ) : Type 0 where
   pub ps : List (ℕ × ℕ)
   pub is : drop from text ≡ transition_lines ps ++ drop at text
   pub fits : Numbers ps
   pub stored : take k room ≡ flat ps
   pub few : 2 * k ≤ at
   pub low : at ≤ length text
-  pub long : length room ≡ length before
 
-pub listing_start : (text : List ℕ) (from : ℕ) (room : List ℕ) → from ≤ length text → Listing text from room room 0 from
-listing_start text from room h = record { ps = []; is = refl; fits = λ k. omega arith; stored = refl; few = omega arith; low = h; long = refl }
-
-module _ {text : List ℕ} {from : ℕ} {before room : List ℕ} {k at : ℕ} (s : Listing text from before room k at) where
-  pub listing_end : length text ≤ at → k ≤ length room → Lines (drop from text) room (count.Of k)
+module _ {text : List ℕ} {from : ℕ} {room : List ℕ} {k at : ℕ} (s : Listing text from room k at) where
+  pub listing_end : length text ≤ at → k ≤ length room → Lines (drop from text) room (Some k)
   listing_end h l = lines s.ps (s.is ∙ ap (λ (l : List ℕ). transition_lines s.ps ++ l) (drop_of_length-le text h) ∙ append-nil (transition_lines s.ps)) s.fits s.stored l
 
-  pub listing_none : at < length text → none ≡ transition_line (drop at text) → Lines (drop from text) room count.Nothing
+  pub listing_none : at < length text → None ≡ transition_line (drop at text) → Lines (drop from text) room None
   listing_none h e =
       other (λ qs u q. let (rs, i, j, w) = lines_prefix s.ps qs (drop at text) s.fits u (sym q ∙ s.is) in
       lines_none rs w (sym (ap transition_line (drop-cons text at 0 h)) ∙ sym e) (sym (drop-cons text at 0 h) ∙ j))
 
-  module _ {a b next : ℕ} (h : at < length text) (e : some (a, b, drop next text) ≡ transition_line (drop at text)) (n : next ≤ length text) where
+  module _ {a b next : ℕ} (h : at < length text) (e : Some (a, b, drop next text) ≡ transition_line (drop at text)) (n : next ≤ length text) where
     line : Line (drop at text) a b (drop next text)
     line = line_spelled (drop at text) (sym e)
 
@@ -88,7 +83,7 @@ module _ {text : List ℕ} {from : ℕ} {before room : List ℕ} {k at : ℕ} (s
           decimal-long b,
         )
 
-    pub listing_on : k + 1 < length room → Listing text from before (set (set room k a) (k + 1) b) (k + 2) next
+    pub listing_on : k + 1 < length room → Listing text from (set (set room k a) (k + 1) b) (k + 2) next
     listing_on r =
         record {
           ps = s.ps ++ ((a, b) ∷ []);
@@ -97,5 +92,4 @@ module _ {text : List ℕ} {from : ℕ} {before room : List ℕ} {k at : ℕ} (s
           stored = take_two room k a b r ∙ ap (λ (l : List ℕ). l ++ (a ∷ b ∷ [])) s.stored ∙ sym (flat-snoc s.ps (a, b));
           few = omega (arith, s.few, listing_far);
           low = n;
-          long = length-set (set room k a) (k + 1) b ∙ length-set room k a ∙ s.long;
         }

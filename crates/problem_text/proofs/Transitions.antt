@@ -1,14 +1,15 @@
 -- Reading the lines of transitions reads exactly their printed form.
 use mathlib.Core.Path.{◌≡◌, refl, sym, ap, ap₂, ◌∙◌}
 use mathlib.Core.List.{List, [], ◌∷◌, ◌++◌, append_assoc, append-nil}
-use mathlib.Core.Option.{Option, none, some, some-injective}
+use Rattle.std.specs.Prelude.{None, Some, option_and_then}
+use Rattle.std.proofs.lemmas.Option.{same_Some}
 use Prim.Native.Nat.{ℕ, suc, ◌<◌}
 use native.Mathlib.Omega.{arith}
 use lib.ListN.{length, length-append}
 use Rattle.hazard.proofs.Search.{none-some}
 use Rattle.problem_text.specs.Decimal.{decimal}
 use Rattle.problem_text.specs.Form.{newline, space, transition_lines, Numbers}
-use Rattle.problem_text.specs.Read.{and_then, field_by, transition_line}
+use Rattle.problem_text.specs.Read.{field_by, transition_line}
 use Rattle.problem_text.proofs.Numbers.{then_known, field_read, field-spelled}
 
 -- The text begins with the line of the transition from a to b.
@@ -17,30 +18,16 @@ pub record Line (cs : List ℕ) (a b : ℕ) (rest : List ℕ) : Type 0 where
   pub start : a < 65536
   pub end : b < 65536
 
-pub line_read : (a b : ℕ) (cs : List ℕ) → a < 65536 → b < 65536 → transition_line (decimal a ++ (space ∷ decimal b ++ (newline ∷ cs))) ≡ some (a, b, cs)
+pub line_read : (a b : ℕ) (cs : List ℕ) → a < 65536 → b < 65536 → transition_line (decimal a ++ (space ∷ decimal b ++ (newline ∷ cs))) ≡ Some (a, b, cs)
 line_read a b cs h k =
-    ap (λ (o : Option (ℕ × List ℕ)). and_then o (λ p. and_then (field_by newline p.1) (λ q. some (p.0, q.0, q.1)))) (field_read space a (decimal b ++ (newline ∷ cs)) refl h)
-    ∙ ap (λ (o : Option (ℕ × List ℕ)). and_then o (λ q. some (a, q.0, q.1))) (field_read newline b cs refl k)
+    ap (option_and_then (λ (p : ℕ × List ℕ). option_and_then (λ (q : ℕ × List ℕ). Some (p.0, q.0, q.1)) (field_by newline p.1))) (field_read space a (decimal b ++ (newline ∷ cs)) refl h)
+    ∙ ap (option_and_then (λ (q : ℕ × List ℕ). Some (a, q.0, q.1))) (field_read newline b cs refl k)
 
--- A line, from its two numbers.
-pub line_none : (cs : List ℕ) → none ≡ field_by space cs → none ≡ transition_line cs
-line_none cs h = ap (λ (o : Option (ℕ × List ℕ)). and_then o (λ p. and_then (field_by newline p.1) (λ q. some (p.0, q.0, q.1)))) h
-
-module _ (cs : List ℕ) (a : ℕ) (ds : List ℕ) (h : some (a, ds) ≡ field_by space cs) where
-  line_second : and_then (field_by newline ds) (λ q. some (a, q.0, q.1)) ≡ transition_line cs
-  line_second = ap (λ (o : Option (ℕ × List ℕ)). and_then o (λ p. and_then (field_by newline p.1) (λ q. some (p.0, q.0, q.1)))) h
-
-  pub line_half : none ≡ field_by newline ds → none ≡ transition_line cs
-  line_half k = ap (λ (o : Option (ℕ × List ℕ)). and_then o (λ q. some (a, q.0, q.1))) k ∙ line_second
-
-  pub line_whole : (b : ℕ) (es : List ℕ) → some (b, es) ≡ field_by newline ds → some (a, b, es) ≡ transition_line cs
-  line_whole b es k = ap (λ (o : Option (ℕ × List ℕ)). and_then o (λ q. some (a, q.0, q.1))) k ∙ line_second
-
-pub line_spelled : (cs : List ℕ) {a b : ℕ} {rest : List ℕ} → transition_line cs ≡ some (a, b, rest) → Line cs a b rest
+pub line_spelled : (cs : List ℕ) {a b : ℕ} {rest : List ℕ} → transition_line cs ≡ Some (a, b, rest) → Line cs a b rest
 line_spelled cs {a} {b} {rest} h =
-    let (p, q, r) = then_known (field_by space cs) (λ p. and_then (field_by newline p.1) (λ q. some (p.0, q.0, q.1))) h in
-    let (p', q', r') = then_known (field_by newline p.1) (λ q. some (p.0, q.0, q.1)) r in
-    let l : ◌≡◌ {A = ℕ × ℕ × List ℕ} (p.0, p'.0, p'.1) (a, b, rest) = some-injective _ _ r' in
+    let (p, q, r) = then_known (field_by space cs) (λ p. option_and_then (λ q. Some (p.0, q.0, q.1)) (field_by newline p.1)) h in
+    let (p', q', r') = then_known (field_by newline p.1) (λ q. Some (p.0, q.0, q.1)) r in
+    let l : ◌≡◌ {A = ℕ × ℕ × List ℕ} (p.0, p'.0, p'.1) (a, b, rest) = same_Some _ _ r' in
     let i : p.0 ≡ a = ap (λ (l : ℕ × ℕ × List ℕ). l.0) l in
     let j : p'.0 ≡ b = ap (λ (l : ℕ × ℕ × List ℕ). l.1) l in
     let s = field-spelled space cs q in
@@ -52,13 +39,13 @@ line_spelled cs {a} {b} {rest} h =
     }
 
 -- The first of several lines is read.
-lines_read : (p : ℕ × ℕ) (ps : List (ℕ × ℕ)) (cs : List ℕ) → Numbers (p ∷ ps) → transition_line (transition_lines (p ∷ ps) ++ cs) ≡ some (p.0, p.1, transition_lines ps ++ cs)
+lines_read : (p : ℕ × ℕ) (ps : List (ℕ × ℕ)) (cs : List ℕ) → Numbers (p ∷ ps) → transition_line (transition_lines (p ∷ ps) ++ cs) ≡ Some (p.0, p.1, transition_lines ps ++ cs)
 lines_read p ps cs u =
     ap transition_line (append_assoc (decimal p.0) (space ∷ decimal p.1 ++ (newline ∷ transition_lines ps)) cs
     ∙ ap (λ (l : List ℕ). decimal p.0 ++ (space ∷ l)) (append_assoc (decimal p.1) (newline ∷ transition_lines ps) cs))
     ∙ line_read p.0 p.1 (transition_lines ps ++ cs) (u 0) (u 1)
 
-lines_here : (p : ℕ × ℕ) (ps : List (ℕ × ℕ)) → Numbers (p ∷ ps) → transition_line (transition_lines (p ∷ ps)) ≡ some (p.0, p.1, transition_lines ps)
+lines_here : (p : ℕ × ℕ) (ps : List (ℕ × ℕ)) → Numbers (p ∷ ps) → transition_line (transition_lines (p ∷ ps)) ≡ Some (p.0, p.1, transition_lines ps)
 lines_here p ps u = line_read p.0 p.1 (transition_lines ps) (u 0) (u 1)
 
 -- Lines of whole transitions before a text are read off it.
@@ -66,13 +53,13 @@ pub lines_prefix : (ps qs : List (ℕ × ℕ)) (cs : List ℕ) → Numbers ps �
 lines_prefix [] qs cs u v e = (qs, refl, sym e, v)
 lines_prefix (p ∷ ps) [] cs u v e = none-some (ap transition_line e ∙ lines_read p ps cs u)
 lines_prefix (p ∷ ps) (q ∷ qs) cs u v e =
-    let l : ◌≡◌ {A = ℕ × ℕ × List ℕ} (q.0, q.1, transition_lines qs) (p.0, p.1, transition_lines ps ++ cs) = some-injective _ _ (sym (lines_here q qs v) ∙ ap transition_line e ∙ lines_read p ps cs u) in
+    let l : ◌≡◌ {A = ℕ × ℕ × List ℕ} (q.0, q.1, transition_lines qs) (p.0, p.1, transition_lines ps ++ cs) = same_Some _ _ (sym (lines_here q qs v) ∙ ap transition_line e ∙ lines_read p ps cs u) in
     let i : q ≡ p = ap (λ (l : ℕ × ℕ × List ℕ). (l.0, l.1)) l in
     let (rs, j, k, w) = lines_prefix ps qs cs (λ k. u (suc (suc k))) (λ k. v (suc (suc k))) (ap (λ (l : ℕ × ℕ × List ℕ). l.2) l) in
     (rs, ap₂ (λ (q : ℕ × ℕ) (qs : List (ℕ × ℕ)). q ∷ qs) i j, k, w)
 
 -- A text that begins with no transition's line is no list of lines, unless it is empty.
-pub lines_none : (qs : List (ℕ × ℕ)) {c : ℕ} {cs : List ℕ} → Numbers qs → transition_line (c ∷ cs) ≡ none → ¬ (c ∷ cs ≡ transition_lines qs)
+pub lines_none : (qs : List (ℕ × ℕ)) {c : ℕ} {cs : List ℕ} → Numbers qs → transition_line (c ∷ cs) ≡ None → ¬ (c ∷ cs ≡ transition_lines qs)
 lines_none [] {cs = cs} u h e = let l : 0 ≡ suc (length cs) = ap length (sym e) in absurd (omega (arith, l))
 lines_none (q ∷ qs) u h e = none-some (sym h ∙ ap transition_line e ∙ lines_here q qs u)
 

@@ -1,7 +1,6 @@
 // The text of a problem: its form, and how it is read.
 #![tactic(auto)]
 
-pub mod count;
 pub mod field;
 pub mod number;
 pub mod read;

@@ -1,9 +1,9 @@
 -- The program's promise, from what was read and what was printed.
-use mathlib.Core.Path.{◌≡◌, refl, sym, subst, subst₂, ◌∙◌}
+use mathlib.Core.Path.{◌≡◌, refl, sym, subst, ◌∙◌}
 use mathlib.Core.List.{List, ◌∷◌}
-use mathlib.Core.Option.{Option, none, some, some-injective}
-use Prim.Native.Nat.{ℕ, suc, ◌-◌, ◌≤◌, ◌<◌}
-use native.Mathlib.Nat.{sub-zero}
+use Rattle.std.specs.Prelude.{Option, None, Some}
+use Rattle.std.proofs.lemmas.Option.{same_Some}
+use Prim.Native.Nat.{ℕ, suc, ◌≤◌, ◌<◌}
 use native.Mathlib.Omega.{arith}
 use lib.ListN.{length, take}
 use Rattle.hazard.specs.Search.{first_of}
@@ -13,28 +13,28 @@ use Rattle.problem_text.specs.Form.{Form, flat}
 use Rattle.writing.specs.Output.{most_output, refusal_text}
 use Rattle.problem_text.specs.Read.{Reading, problem, malformed}
 use Rattle.quiet_text.specs.Answer.{checks, Printed, Solved, Replied}
-use Rattle.problem_text.specs.declared.read.Read.TheVariants as read
+use Rattle.problem_text.specs.declared.read.Read.{Read}
 use Rattle.problem_text.proofs.Forms.{form_unique}
 use Rattle.quiet_text.proofs.Solving.{printed-within}
 
 -- What is counted for a problem lies in the buffer.
-solved-within : {n : ℕ} {f ts before after : List ℕ} {r : Option ℕ} → Solved n f ts before after r → (k : ℕ) → r ≡ some k → k ≤ length after
+solved-within : {n : ℕ} {f ts before after : List ℕ} {r : Option ℕ} → Solved n f ts before after r → (k : ℕ) → r ≡ Some k → k ≤ length after
 solved-within {n} {f} {ts} {before} {after} {r} s = go (first_of (checks n f ts)) refl
   where
-    go : (o : Option Refusal) → first_of (checks n f ts) ≡ o → (k : ℕ) → r ≡ some k → k ≤ length after
-    go (some q) e = printed-within (s.refused q e).0
-    go none e = printed-within (s.network e).2
+    go : (o : Option Refusal) → first_of (checks n f ts) ≡ o → (k : ℕ) → r ≡ Some k → k ≤ length after
+    go (Some q) e = printed-within (s.refused q e).0
+    go None e = printed-within (s.network e).2
 
 -- What is printed has a head, so it is not empty.
-printed-some : {before after : List ℕ} {r : Option ℕ} (b : ℕ) (bytes : List ℕ) → Printed before (b ∷ bytes) after r → (k : ℕ) → r ≡ some k → 0 < k
-printed-some b bytes w k e = let i : suc (length bytes) ≡ k = some-injective _ _ (sym w.count ∙ e) in omega (arith, i)
+printed-some : {before after : List ℕ} {r : Option ℕ} (b : ℕ) (bytes : List ℕ) → Printed before (b ∷ bytes) after r → (k : ℕ) → r ≡ Some k → 0 < k
+printed-some b bytes w k e = let i : suc (length bytes) ≡ k = same_Some _ _ (sym w.count ∙ e) in omega (arith, i)
 
-solved-some : {n : ℕ} {f ts before after : List ℕ} {r : Option ℕ} → Solved n f ts before after r → (k : ℕ) → r ≡ some k → 0 < k
+solved-some : {n : ℕ} {f ts before after : List ℕ} {r : Option ℕ} → Solved n f ts before after r → (k : ℕ) → r ≡ Some k → 0 < k
 solved-some {n} {f} {ts} {before} {after} {r} s = go (first_of (checks n f ts)) refl
   where
-    go : (o : Option Refusal) → first_of (checks n f ts) ≡ o → (k : ℕ) → r ≡ some k → 0 < k
-    go (some q) e = printed-some _ _ (s.refused q e).0
-    go none e = printed-some _ _ (s.network e).2
+    go : (o : Option Refusal) → first_of (checks n f ts) ≡ o → (k : ℕ) → r ≡ Some k → 0 < k
+    go (Some q) e = printed-some _ _ (s.refused q e).0
+    go None e = printed-some _ _ (s.network e).2
 
 -- The problem that was read is the only one that the text says.
 only-solved : {text : List ℕ} {n : ℕ} {f : List ℕ} {ps : List (ℕ × ℕ)} {before after : List ℕ} {r : Option ℕ} → Form text n f ps → Solved n f (flat ps) before after r
@@ -46,7 +46,7 @@ only-solved {n = n} {f = f} {ps = ps} {before = before} {after = after} {r = r} 
     subst (λ (qs : List (ℕ × ℕ)). Solved m g (flat qs) before after r) k a₂
 
 module _ {text before after : List ℕ} {r : Option ℕ} where
-  pub replied_short : length before < most_output → after ≡ before → r ≡ none → Replied text before after r
+  pub replied_short : length before < most_output → after ≡ before → r ≡ None → Replied text before after r
   replied_short h e n =
       record {
         no_room = λ l. (n, e);
@@ -57,7 +57,7 @@ module _ {text before after : List ℕ} {r : Option ℕ} where
       }
 
   module _ {f ts : List ℕ} (h : most_output ≤ length before) where
-    pub replied_malformed : Reading text f ts read.Malformed → Printed before (refusal_text (refusal 13 0 0)) after r → Replied text before after r
+    pub replied_malformed : Reading text f ts None → Printed before (refusal_text (refusal 13 0 0)) after r → Replied text before after r
     replied_malformed (malformed n) w =
         record {
           no_room = λ l. absurd (omega (arith, l));
@@ -67,22 +67,21 @@ module _ {text before after : List ℕ} {r : Option ℕ} where
           solved = λ l n' f' ps s. absurd (n (n', f', ps, s));
         }
 
-    -- The table and the list are lent as parts of the room, from 0 on.
-    pub replied_solved : {n k t : ℕ} → Reading text f ts (read.Problem n k t) → Solved n (take (k - 0) f) (take (t - 0) ts) before after r → Replied text before after r
-    replied_solved {n} {k} {t} (problem ps s e l m) a =
-        let c : Solved n (take k f) (take t ts) before after r = subst₂ (λ (i j : ℕ). Solved n (take i f) (take j ts) before after r) (sub-zero k) (sub-zero t) a in
-        let b : Solved n (take k f) (flat ps) before after r = subst (λ (q : List ℕ). Solved n (take k f) q before after r) e c in
+    -- The table and the list are lent as the first parts of the room.
+    pub replied_solved : {q : Read} → Reading text f ts (Some q) → Solved q.inputs (take q.table f) (take q.transitions ts) before after r → Replied text before after r
+    replied_solved {q} (problem ps s e l m) a =
+        let b : Solved q.inputs (take q.table f) (flat ps) before after r = subst (λ (l : List ℕ). Solved q.inputs (take q.table f) l before after r) e a in
         record {
           no_room = λ l. absurd (omega (arith, l));
           within = solved-within b;
           some' = solved-some b;
-          malformed = λ l n'. absurd (n' (n, take k f, ps, s));
+          malformed = λ l n. absurd (n (q.inputs, take q.table f, ps, s));
           solved = λ l. only-solved s b;
         }
 
 -- The parts of the room that the problem takes.
-pub table-within : {text f ts : List ℕ} {n k t : ℕ} → Reading text f ts (read.Problem n k t) → k ≤ length f
+pub table-within : {text f ts : List ℕ} {q : Read} → Reading text f ts (Some q) → q.table ≤ length f
 table-within (problem ps s e l m) = l
 
-pub list_within : {text f ts : List ℕ} {n k t : ℕ} → Reading text f ts (read.Problem n k t) → t ≤ length ts
+pub list_within : {text f ts : List ℕ} {q : Read} → Reading text f ts (Some q) → q.transitions ≤ length ts
 list_within (problem ps s e l m) = m

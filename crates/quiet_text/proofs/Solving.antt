@@ -3,7 +3,8 @@ use mathlib.Core.Logic.{◌≢◌}
 use mathlib.Core.Path.{◌≡◌, refl, sym, ap, ap₂, subst, ◌∙◌}
 use mathlib.Core.Bool.{Bool, false}
 use mathlib.Core.List.{List, [], ◌∷◌, ◌++◌, Memᴰ, map, append_assoc}
-use mathlib.Core.Option.{Option, none, some, some-injective}
+use Rattle.std.specs.Prelude.{Option, None, Some}
+use Rattle.std.proofs.lemmas.Option.{same_Some}
 use Prim.Native.Nat.{ℕ, zero, suc, ◌+◌, ◌*◌, ◌≤◌}
 use native.Mathlib.Nat.{mul-le-mul, zero-mul, suc-mul}
 use native.Mathlib.Omega.{arith}
@@ -38,12 +39,12 @@ module _ (n : ℕ) (f ts : List ℕ) where
   abbrev numbers : (ks : List ℕ) × Numbers ks (checks n f ts)
   numbers = (_, numbers-append (input-numbers n f ts).1 (next (block_number n f ts) no_more))
 
-  pub never_nine : (q : Refusal) → first_of (checks n f ts) ≡ some q → q.number ≢ 9
+  pub never_nine : (q : Refusal) → first_of (checks n f ts) ≡ Some q → q.number ≢ 9
   never_nine q e h = subst (λ (k : ℕ). T (listed k numbers.0)) h (number-listed numbers.1 e)
 
   module _ {room : ℕ} (h : most_cover ≤ room) where
     -- The room is enough, so check 9 finds nothing.
-    room_enough : Accepted n f ts → room_check n f ts room ≡ none
+    room_enough : Accepted n f ts → room_check n f ts room ≡ None
     room_enough a =
         let l : n * length (required n f ts) ≤ most_cover = mul-le-mul (few-inputs n f ts a).1 (required-few n f ts a) in
         let b : ltb room (n * length (required n f ts)) ≡ false = le-ltb room (n * length (required n f ts)) (omega arith) in
@@ -54,23 +55,23 @@ module _ (n : ℕ) (f ts : List ℕ) where
     same-checks = go (first_of (input_checks n f ts)) refl
       where
         go : (o : Option Refusal) → first_of (input_checks n f ts) ≡ o → first_of (minimiser_checks n f ts room) ≡ first_of (checks n f ts)
-        go (some q) e = first_of-left (input_checks n f ts) (room_check n f ts room ∷ blocking n f ts ∷ []) e ∙ sym (first_of-left (input_checks n f ts) (blocking n f ts ∷ []) e)
-        go none e =
+        go (Some q) e = first_of-left (input_checks n f ts) (room_check n f ts room ∷ blocking n f ts ∷ []) e ∙ sym (first_of-left (input_checks n f ts) (blocking n f ts ∷ []) e)
+        go None e =
             first_of-right (input_checks n f ts) (room_check n f ts room ∷ blocking n f ts ∷ []) e ∙ ap (λ (o : Option Refusal). first_of (o ∷ blocking n f ts ∷ [])) (room_enough e)
             ∙ sym (first_of-right (input_checks n f ts) (blocking n f ts ∷ []) e)
 
-    early : Accepted n f ts → first_of (input_checks n f ts ++ (room_check n f ts room ∷ [])) ≡ none
+    early : Accepted n f ts → first_of (input_checks n f ts ++ (room_check n f ts room ∷ [])) ≡ None
     early a = first_of-right (input_checks n f ts) (room_check n f ts room ∷ []) a ∙ ap (λ (o : Option Refusal). first_of (o ∷ [])) (room_enough a)
 
     -- Where the input rules hold, only a blocking cube is refused.
-    only_ten : Accepted n f ts → (q : Refusal) → first_of (checks n f ts) ≡ some q → q.number ≡ 10
+    only_ten : Accepted n f ts → (q : Refusal) → first_of (checks n f ts) ≡ Some q → q.number ≡ 10
     only_ten a q e = block_number n f ts q (sym (first_of-right (input_checks n f ts) (blocking n f ts ∷ []) a ∙ first_of-one (blocking n f ts)) ∙ e)
 
 -- Bytes written from the buffer's beginning on are printed.
-pub printed-from : {before bytes after : List ℕ} {r : ℕ} → Wrote before 0 bytes after r → length bytes ≤ length before → Printed before bytes after (some r)
+pub printed-from : {before bytes after : List ℕ} {r : ℕ} → Wrote before 0 bytes after r → length bytes ≤ length before → Printed before bytes after (Some r)
 printed-from {before} {bytes} w h =
     let e : 0 + length bytes ≡ length bytes = omega arith in
-    record { count = ap some (w.place ∙ e); is = w.is ∙ sets-eq bytes before 0 (omega arith) ∙ ap (λ (k : ℕ). bytes ++ drop k before) e }
+    record { count = ap Some (w.place ∙ e); is = w.is ∙ sets-eq bytes before 0 (omega arith) ∙ ap (λ (k : ℕ). bytes ++ drop k before) e }
 
 product-length : (n : ℕ) (p : Cube) → T (is_product n p) → length p ≡ n
 product-length zero [] t = refl
@@ -88,9 +89,9 @@ cut-bytes n (p ∷ net) rest h =
     (ap (λ (b : List ℕ). cut n (length net) (drop n b)) split ∙ ap (cut n (length net)) (drop_at p (bytes_of net ++ rest) n l) ∙ cut-bytes n net rest (λ q m. h q (Memᴰ.tail m)))
 
 -- What is counted lies in the buffer.
-pub printed-within : {before bytes after : List ℕ} {r : Option ℕ} → Printed before bytes after r → (k : ℕ) → r ≡ some k → k ≤ length after
+pub printed-within : {before bytes after : List ℕ} {r : Option ℕ} → Printed before bytes after r → (k : ℕ) → r ≡ Some k → k ≤ length after
 printed-within {before} {bytes} {after} w k e =
-    let c : k ≡ length bytes = some-injective _ _ (sym e ∙ w.count) in
+    let c : k ≡ length bytes = same_Some _ _ (sym e ∙ w.count) in
     let l : length after ≡ length bytes + length (drop (length bytes) before) = ap length w.is ∙ length-append bytes (drop (length bytes) before) in
     omega arith
 
@@ -125,15 +126,15 @@ record Made (n : ℕ) (f ts before after : List ℕ) (k : ℕ) : Type 0 where
   minimal' : Minimal n f ts net
   is : after ≡ bytes_of net ++ drop (n * length net) before
   accepted : Accepted n f ts
-  passed : first_of (checks n f ts) ≡ none
+  passed : first_of (checks n f ts) ≡ None
 
 module _ {n : ℕ} {f ts before after : List ℕ} where
   -- A refusal, printed.
   pub solved-refused : {m : Refusal} {out out' : List ℕ} {r : ℕ} → most_cover ≤ length before → minimal.Promise n f ts before after (declined m)
-      → Printed out (refusal_text m) out' (some r) → Solved n f ts out out' (some r)
+      → Printed out (refusal_text m) out' (Some r) → Solved n f ts out out' (Some r)
   solved-refused {m} {out} {out'} {r} h p w =
       record {
-        refused = λ q e. (subst (λ (q : Refusal). Printed out (refusal_text q) out' (some r)) (same q e) w, never_nine n f ts q e);
+        refused = λ q e. (subst (λ (q : Refusal). Printed out (refusal_text q) out' (Some r)) (same q e) w, never_nine n f ts q e);
         network = λ e. none_here (p.network (same-checks n f ts h ∙ e));
         none' = λ a. let t = p.none' (early n f ts h a) in
             (λ x. t.0 (m, refl, ten a (first_of (checks n f ts)) refl), λ x. let (q, e, k) = t.1 x in (m, w, ap (λ (q : Refusal). q.number) (inner q e) ∙ k));
@@ -142,15 +143,15 @@ module _ {n : ℕ} {f ts before after : List ℕ} where
       inner : (q : Refusal) → declined m ≡ declined q → m ≡ q
       inner q e = ap (λ (x : Minimised). elim x [ written k ↦ m | declined q ↦ q ]) e
 
-      same : (q : Refusal) → first_of (checks n f ts) ≡ some q → m ≡ q
+      same : (q : Refusal) → first_of (checks n f ts) ≡ Some q → m ≡ q
       same q e = inner q (p.refused q (same-checks n f ts h ∙ e)).0
 
       none_here : {C : Type 0} → (net : Network) × (declined m ≡ written (length net)) × Minimal n f ts net × (after ≡ bytes_of net ++ drop (n * length net) before) → C
       none_here (net, e, k, w) = let z : ◌≡◌ {A = ℕ} 0 1 = cc in absurd (omega arith)
 
       ten : Accepted n f ts → (o : Option Refusal) → first_of (checks n f ts) ≡ o → m.number ≡ 10
-      ten a (some q) e = ap (λ (q : Refusal). q.number) (same q e) ∙ only_ten n f ts h a q e
-      ten a none e = none_here (p.network (same-checks n f ts h ∙ e))
+      ten a (Some q) e = ap (λ (q : Refusal). q.number) (same q e) ∙ only_ten n f ts h a q e
+      ten a None e = none_here (p.network (same-checks n f ts h ∙ e))
 
   made : {k : ℕ} → most_cover ≤ length before → minimal.Promise n f ts before after (written k) → Made n f ts before after k
   made {k} h p = go (first_of (checks n f ts)) refl
@@ -159,8 +160,8 @@ module _ {n : ℕ} {f ts before after : List ℕ} where
       never q e = let z : ◌≡◌ {A = ℕ} 0 1 = cc in absurd (omega arith)
 
       go : (o : Option Refusal) → first_of (checks n f ts) ≡ o → Made n f ts before after k
-      go (some q) e = never q (p.refused q (same-checks n f ts h ∙ e)).0
-      go none e =
+      go (Some q) e = never q (p.refused q (same-checks n f ts h ∙ e)).0
+      go None e =
           let (net, s, m, w) = p.network (same-checks n f ts h ∙ e) in
           record {
             net = net;
@@ -184,7 +185,7 @@ module _ {n : ℕ} {f ts before after : List ℕ} where
 
   -- A network, printed.
   pub solved-written : {k : ℕ} {out out' : List ℕ} {r : ℕ} → most_cover ≤ length before → minimal.Promise n f ts before after (written k) → most_output ≤ length out
-      → Wrote out 0 (products_head ++ (decimal k ++ (newline ∷ product_lines (cut n k after)))) out' r → Solved n f ts out out' (some r)
+      → Wrote out 0 (products_head ++ (decimal k ++ (newline ∷ product_lines (cut n k after)))) out' r → Solved n f ts out out' (Some r)
   solved-written {k} {out} {out'} {r} h p room w =
       record {
         refused = λ q e. none-some (sym m.passed ∙ e);
@@ -213,9 +214,9 @@ module _ {n : ℕ} {f ts before after : List ℕ} where
             lines_most n (length m.net) inputs few,
           )
 
-      shown : Printed out (network_text m.net) out' (some r)
+      shown : Printed out (network_text m.net) out' (Some r)
       shown = printed-from (subst (λ (b : List ℕ). Wrote out 0 b out' r) text w) fits
 
       -- No output is both a network's and a refusal's.
-      other : {C : Type 0} (q : Refusal) → Printed out (refusal_text q) out' (some r) → C
+      other : {C : Type 0} (q : Refusal) → Printed out (refusal_text q) out' (Some r) → C
       other q s = let e : ◌≡◌ {A = ℕ} 112 114 = ap (λ (l : List ℕ). get_or l 0 0) (sym shown.is ∙ s.is) in absurd (omega (arith, e))

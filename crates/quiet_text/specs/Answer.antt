@@ -1,19 +1,12 @@
 -- What the program promises of its output.
 use Rattle.std.specs.Prelude.{◌↔◌, ◌≢◌, ◌≡◌, List, [], ◌∷◌, ◌++◌, ℕ, ◌≤◌, ◌<◌, length, drop}
-use Rattle.std.proofs.Math.Option.{Option, none, some}
+use Rattle.std.specs.Prelude.{Option, None, Some}
 use Rattle.hazard.specs.Search.{first_of}
 use Rattle.hazard.specs.Cover.{Network}
 use Rattle.hazard.specs.Refusal.{Refusal, refusal, input_checks, Accepted}
 use Rattle.hazard.specs.Minimal.{blocking, Minimal, NoNetwork}
 use Rattle.problem_text.specs.Form.{Form, Formed, flat}
 use Rattle.writing.specs.Output.{network_text, most_output, refusal_text}
-use Rattle.quiet_text.specs.declared.answer.Output.{Output}
-use Rattle.quiet_text.specs.declared.answer.Output.TheVariants.{Written, NoRoom}
-
--- How many bytes were written, if any.
-abbrev pub written_of : Output → Option ℕ
-written_of (Written k) = some k
-written_of NoRoom = none
 
 -- The checks after 13: the minimiser's, without 9, since the buffer that it is lent is long enough.
 abbrev pub checks : ℕ → List ℕ → List ℕ → List (Option Refusal)
@@ -21,25 +14,25 @@ checks n f ts = input_checks n f ts ++ (blocking n f ts ∷ [])
 
 -- The output is these bytes, so many are counted, and the rest of the buffer is as it was.
 pub record Printed (before bytes after : List ℕ) (r : Option ℕ) : Type 0 where
-  pub count : r ≡ some (length bytes)
+  pub count : r ≡ Some (length bytes)
   pub is : after ≡ bytes ++ drop (length bytes) before
 
 -- What is printed for a problem.
 pub record Solved (n : ℕ) (f ts before after : List ℕ) (r : Option ℕ) : Type 0 where
   -- The first refusal by the checks, and it is never 9.
-  pub refused : (q : Refusal) → first_of (checks n f ts) ≡ some q → Printed before (refusal_text q) after r × (q.number ≢ 9)
+  pub refused : (q : Refusal) → first_of (checks n f ts) ≡ Some q → Printed before (refusal_text q) after r × (q.number ≢ 9)
   -- Not refused: a minimal network.
-  pub network : first_of (checks n f ts) ≡ none → (net : Network) × Minimal n f ts net × Printed before (network_text net) after r
+  pub network : first_of (checks n f ts) ≡ None → (net : Network) × Minimal n f ts net × Printed before (network_text net) after r
   -- Where the input rules hold: refusal 10 exactly if there is no hazard-free network.
   pub none' : Accepted n f ts → ((q : Refusal) × Printed before (refusal_text q) after r × (q.number ≡ 10)) ↔ NoNetwork n f ts
 
 -- What is printed for a text, into a buffer with room for the longest output; a shorter one is left as it was.
 pub record Replied (text before after : List ℕ) (r : Option ℕ) : Type 0 where
-  pub no_room : length before < most_output → (r ≡ none) × (after ≡ before)
+  pub no_room : length before < most_output → (r ≡ None) × (after ≡ before)
   -- What is counted lies in the buffer.
-  pub within : (k : ℕ) → r ≡ some k → k ≤ length after
+  pub within : (k : ℕ) → r ≡ Some k → k ≤ length after
   -- The output is never empty.
-  pub some' : (k : ℕ) → r ≡ some k → 0 < k
+  pub some' : (k : ℕ) → r ≡ Some k → 0 < k
   -- 13: the text is not of the form.
   pub malformed : most_output ≤ length before → ¬ Formed text → Printed before (refusal_text (refusal 13 0 0)) after r
   -- It is: the answer for what it says.

@@ -3,17 +3,17 @@ use mathlib.Core.Path.{◌≡◌, refl, sym, ap, ◌∙◌}
 use mathlib.Core.Logic.{inl, inr}
 use mathlib.Core.Bool.{Bool, true, false, ◌||◌}
 use mathlib.Core.List.{List, [], ◌∷◌, ◌++◌}
-use mathlib.Core.Option.{Option, none, some}
+use Rattle.std.specs.Prelude.{Option, None, Some, Result, Ok, Err}
+use Rattle.std.specs.Result.{IsErrAnd}
+use Rattle.std.proofs.lemmas.Result.{err_from_is_err_and}
 use Prim.Native.Nat.{ℕ}
 use lib.Dec.{T}
 use Rattle.hazard.specs.Search.{first_of}
 use Rattle.hazard.specs.Refusal as spec
 use Rattle.hazard.proofs.Test.{or_e}
 use Rattle.hazard.proofs.Search.{first_of-one, first_of-left, first_of-right}
-use Rattle.refusal.specs.Answer.{refusal_of, checked_of}
+use Rattle.refusal.specs.Answer.{refusal_of, refused_by}
 use Rattle.refusal.specs.declared.refusal.Refusal.{Refusal}
-use Rattle.refusal.specs.declared.checked.Checked.{Checked}
-use Rattle.refusal.specs.declared.checked.Checked.TheVariants.{Accepted, Refused}
 
 -- One of two tests, and neither.
 pub or-true : (a b : Bool) → a ≡ true → (a || b) ≡ true
@@ -26,31 +26,32 @@ pub neither : (a b : Bool) → ¬ T a → ¬ T b → ¬ T (a || b)
 neither a b p q t = elim (or_e a b t) [ inl u ↦ p u | inr u ↦ q u ]
 
 -- A check by a test.
-pub refuse_yes : (b : Bool) (number : ℕ) → T b → some (spec.refusal number 0 0) ≡ spec.refuse_if b number
+pub refuse_yes : (b : Bool) (number : ℕ) → T b → Some (spec.refusal number 0 0) ≡ spec.refuse_if b number
 refuse_yes true number t = refl
 refuse_yes false number t = absurd t
 
-pub refuse_no : (b : Bool) (number : ℕ) → ¬ T b → none ≡ spec.refuse_if b number
+pub refuse_no : (b : Bool) (number : ℕ) → ¬ T b → None ≡ spec.refuse_if b number
 refuse_no true number t = absurd (t tt)
 refuse_no false number t = refl
 
 -- A check refuses, or lets through.
-module _ {x : Checked} {o : Option spec.Refusal} (e : checked_of x ≡ o) where
-  pub passed : x ≡ Accepted → o ≡ none
-  passed q = sym e ∙ ap checked_of q
+module _ {A : Type 0} {x : Result A Refusal} {o : Option spec.Refusal} (e : refused_by x ≡ o) where
+  pub passed : {a : A} → x ≡ Ok a → o ≡ None
+  passed q = sym e ∙ ap refused_by q
 
-  pub refused_by : {r : Refusal} → x ≡ Refused r → some (refusal_of r) ≡ o
-  refused_by q = ap checked_of (sym q) ∙ e
+  pub refused : {r : Refusal} → x ≡ Err r → Some (refusal_of r) ≡ o
+  refused q = ap refused_by (sym q) ∙ e
 
 -- A run of checks refuses, whatever comes after it; or lets through, and what comes after it decides.
-module _ {x : Checked} (run : List (Option spec.Refusal)) (e : checked_of x ≡ first_of run) (later : List (Option spec.Refusal)) where
-  pub run_refused : {r : Refusal} → x ≡ Refused r → first_of (run ++ later) ≡ some (refusal_of r)
-  run_refused q = first_of-left run later (sym (refused_by e q))
+module _ {A : Type 0} {x : Result A Refusal} (run : List (Option spec.Refusal)) (e : refused_by x ≡ first_of run) (later : List (Option spec.Refusal)) where
+  pub run_refused : {r : Refusal} → x ≡ Err r → first_of (run ++ later) ≡ Some (refusal_of r)
+  run_refused q = first_of-left run later (sym (refused e q))
 
-  pub run_stays : {r : Refusal} → x ≡ Refused r → checked_of x ≡ first_of (run ++ later)
-  run_stays q = ap checked_of q ∙ sym (run_refused q)
+  -- The refusal is handed on, whatever an answer that is none would hold.
+  pub run_stays : {B : Type 0} {r : Refusal} → x ≡ Err r → (y : Result B Refusal) → IsErrAnd y (λ q. q ≡ r) → refused_by y ≡ first_of (run ++ later)
+  run_stays q y h = let p = err_from_is_err_and y h in rw (p.1, p.2) (sym (run_refused q))
 
-  pub run_passed : x ≡ Accepted → first_of (run ++ later) ≡ first_of later
+  pub run_passed : {a : A} → x ≡ Ok a → first_of (run ++ later) ≡ first_of later
   run_passed q = first_of-right run later (passed e q)
 
 -- One check as a run.

@@ -1,5 +1,5 @@
-// Refusals, and what a check says.
+// Refusals, and the number and the fields that tell them.
 #![tactic(auto)]
 
-pub mod checked;
+pub mod fields;
 pub mod refusal;

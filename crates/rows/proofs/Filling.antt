@@ -1,32 +1,19 @@
--- The loop that writes the words of a whole set.
-use mathlib.Core.Path.{◌≡◌, refl, ap, ◌∙◌}
+-- The loop that writes the words of a whole set: a word more is that of the set of the first rows.
+use mathlib.Core.Path.{◌≡◌, ap, ◌∙◌}
 use mathlib.Core.List.{List}
-use Prim.Native.Nat.{ℕ, ◌+◌, ◌*◌, ◌/◌, ◌%◌, ◌≤◌, ◌<◌}
+use Prim.Native.Nat.{ℕ, ◌+◌, ◌*◌, ◌/◌, ◌%◌, ◌<◌}
 use native.Mathlib.Omega.{arith}
 use native.Mathlib.Decide.{ℕ_discrete}
 use lib.Dec.{eqb, ltb}
-use lib.ListN.{length, get_or, set, length-set}
+use lib.ListN.{length, get_or, set}
 use lib.Seq.{get_or-set_same, get_or-set_other}
 use Rattle.hazard.specs.Cube.{bit}
 use Rattle.cube.specs.PointSet.{in_set}
 
--- The first words are those of the whole set.
-pub record Filling (count : ℕ) (old new : List ℕ) (b : ℕ) : Type 0 where
-  pub low : b ≤ length old
-  pub long : length new ≡ length old
-  pub is : (k : ℕ) → k < 64 * b → in_set new k ≡ ltb k count
-
-pub filling_start : (count : ℕ) (old : List ℕ) → Filling count old old 0
-filling_start count old = record { low = omega arith; long = refl; is = λ k h. absurd (omega arith) }
-
-pub filling_step : {count : ℕ} {old new : List ℕ} {b : ℕ} → Filling count old new b → b < length new → (w : ℕ)
-    → ((t : ℕ) → t < 64 → eqb (bit w t) 1 ≡ ltb (64 * b + t) count) → Filling count old (set new b w) (b + 1)
-filling_step {count} {old} {new} {b} s l w h =
-    record {
-      low = omega (arith, s.long);
-      long = length-set new b w ∙ s.long;
-      is = λ k a. elim (ℕ_discrete (k / 64) b) [ yes e ↦ here k e | no e ↦ ap (λ (v : ℕ). eqb (bit v (k % 64)) 1) (get_or-set_other new b (k / 64) w 0 e) ∙ s.is k (omega arith) ];
-    }
+pub filling_step : (count : ℕ) (new : List ℕ) (b : ℕ) → ((k : ℕ) → k < 64 * b → in_set new k ≡ ltb k count) → b < length new → (w : ℕ)
+    → ((t : ℕ) → t < 64 → eqb (bit w t) 1 ≡ ltb (64 * b + t) count) → (k : ℕ) → k < 64 * (b + 1) → in_set (set new b w) k ≡ ltb k count
+filling_step count new b s l w h k a =
+    elim (ℕ_discrete (k / 64) b) [ yes e ↦ here k e | no e ↦ ap (λ (v : ℕ). eqb (bit v (k % 64)) 1) (get_or-set_other new b (k / 64) w 0 e) ∙ s k (omega arith) ]
   where
     here : (k : ℕ) → k / 64 ≡ b → in_set (set new b w) k ≡ ltb k count
     here k e =

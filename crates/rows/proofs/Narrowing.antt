@@ -1,18 +1,18 @@
 -- The loop that narrows a set of rows, input by input.
 use mathlib.Core.Path.{◌≡◌, refl, ap, ap₂, ◌∙◌}
-use mathlib.Core.Bool.{Bool, true, false, cond, ◌&&◌}
+use mathlib.Core.Bool.{Bool, true, false, ◌&&◌}
 use mathlib.Core.List.{List}
-use Prim.Native.Nat.{ℕ, suc, ◌+◌, ◌*◌, ◌/◌, ◌%◌, ◌≤◌, ◌<◌}
+use Prim.Native.Nat.{ℕ, suc, ◌+◌, ◌-◌, ◌*◌, ◌/◌, ◌%◌, ◌≤◌, ◌<◌, min}
 use native.Mathlib.Numerals.{add-one}
 use native.Mathlib.Omega.{arith}
+use native.Mathlib.Decide.{dec_lt}
 use lib.Bits.{bit_and}
-use lib.Dec.{eqb, ltb, ltb→lt}
+use lib.Dec.{eqb}
 use lib.ListN.{length, get_or}
 use Rattle.hazard.specs.Cube.{bit}
 use Rattle.cube.specs.Mask.{digit_at}
 use Rattle.cube.specs.PointSet.{in_set}
 use Rattle.cube.specs.declared.mask.Cube.{Cube}
-use Rattle.hazard.proofs.Test.{so}
 use Rattle.cube.proofs.WordMask.{both_test}
 use Rattle.blocks.specs.Blocks.{stride, run_of, word_at, allowed, allowed_to}
 
@@ -52,28 +52,24 @@ module _ {columns : List ℕ} {c : Cube} {old new : List ℕ} {i : ℕ} (s : Nar
       ∙ both_test (get_or new (k / 64) 0) (bit_and (word_at columns i (digit_at c i) (k / 64)) (word_at columns j (digit_at c j) (k / 64))) (k % 64)
       ∙ ap₂ ◌&&◌ (s.is k a) (both_test (word_at columns i (digit_at c i) (k / 64)) (word_at columns j (digit_at c j) (k / 64)) (k % 64))
 
-  -- Input i and the next one, or input i twice.
-  pub narrowing_step : {j at also : ℕ} (n : ℕ) → j ≡ cond (ltb (i + 1) n) (i + 1) i → at ≡ run_of (stride columns) i (digit_at c i) → also ≡ run_of (stride columns) j (digit_at c j)
+  -- Input i and the next one, or input i twice where it is the last.
+  pub narrowing_step : {j at also : ℕ} (n : ℕ) → i < n → j ≡ min (i + 1) (n - 1) → at ≡ run_of (stride columns) i (digit_at c i) → also ≡ run_of (stride columns) j (digit_at c j)
       → ((b : ℕ) → b < length new → get_or next b 0 ≡ bit_and (get_or new b 0) (bit_and (get_or columns (at + b) 0) (get_or columns (also + b) 0))) → Narrowing columns c old next (j + 1)
-  narrowing_step {j} n e f g h = go (ltb (i + 1) n) e
-    where
-      go : (b : Bool) → j ≡ cond b (i + 1) i → Narrowing columns c old next (j + 1)
-      go true q =
-          let p : j ≡ suc i = q ∙ add-one i in
-          record {
-            long = l ∙ s.long;
-            is = λ k a. bits j f g h k a ∙ two (in_set old k) (allowed_to columns k c i) (own k i) (own k j) ∙ rw (p, add-one);
-          }
-      go false q =
-          record {
-            long = l ∙ s.long;
-            is = λ k a. bits j f g h k a ∙ rw (q, add-one) (once (in_set old k) (allowed_to columns k c i) (own k i));
-          }
+  narrowing_step {j} n low e f g h = elim (dec_lt (i + 1) n) [
+    | yes m ↦
+        let p : j ≡ suc i = omega (arith, e) in
+        record {
+          long = l ∙ s.long;
+          is = λ k a. bits j f g h k a ∙ two (in_set old k) (allowed_to columns k c i) (own k i) (own k j) ∙ rw (p, add-one);
+        }
+    | no m ↦
+        let q : j ≡ i = omega (arith, e, low, m) in
+        record {
+          long = l ∙ s.long;
+          is = λ k a. bits j f g h k a ∙ rw (q, add-one) (once (in_set old k) (allowed_to columns k c i) (own k i));
+        }
+  ]
 
--- The partner of an input is it or the next, and below n.
-pub partner_low : (i n : ℕ) {j : ℕ} → i < n → j ≡ cond (ltb (i + 1) n) (i + 1) i → (i ≤ j) × (j < n)
-partner_low i n {j} l e = go (ltb (i + 1) n) refl e
-  where
-    go : (b : Bool) → ltb (i + 1) n ≡ b → j ≡ cond b (i + 1) i → (i ≤ j) × (j < n)
-    go true p q = (omega (arith, q), omega (arith, q, ltb→lt (i + 1) n (so p)))
-    go false p q = (omega (arith, q), omega (arith, q, l))
+-- The second of the two inputs is not before the first, it is below n, and after it comes the next input but one, or n.
+pub partner_low : (i n : ℕ) {j : ℕ} → i < n → j ≡ min (i + 1) (n - 1) → (i ≤ j) × (j < n) × (j + 1 ≡ min (i + 2) n)
+partner_low i n l e = (omega (arith, e, l), omega (arith, e, l), omega (arith, e, l))

@@ -5,7 +5,6 @@ ghost use Rattle.blocks.specs.Blocks.{stride, allowed_to};
 ghost use Rattle.rows.specs.Sets.{Split};
 
 use crate::narrow::narrow;
-use cube::copy::copy_into;
 use cube::mask::Cube;
 
 // The rows of the other set leave.
@@ -13,11 +12,8 @@ fn remove(set: &mut [u64], other: &[u64])
     requires { length other.now ≡ length set.old }
     ensures { (b : ℕ) → b < length other.now → get_or set.new b 0 ≡ bit_xor (get_or set.old b 0) (bit_and (get_or set.old b 0) (get_or other.now b 0)) }
 {
-    let mut b = 0;
-    while b < other.len() {
-        let word = set[b];
-        set[b] = word ^ (word & other[b]);
-        b += 1;
+    for (b, word) in set.iter_mut().enumerate() {
+        *word ^= *word & other[b];
     }
 }
 
@@ -26,7 +22,7 @@ pub fn split(n: usize, columns: &[u64], c: Cube, set: &mut [u64], taken: &mut [u
     requires { (n ≤ 10) × (length set.old ≤ stride columns.now) × (length taken.old ≡ length set.old) }
     ensures { Split (λ k. allowed_to columns.now k c n) set.old set.new taken.new }
 {
-    copy_into(set, taken);
+    taken.copy_from_slice(set);
     narrow(n, columns, c, taken);
     remove(set, taken);
 }

@@ -9,10 +9,8 @@ use columns::whole::whole_word;
 pub fn whole_into(count: usize, out: &mut [u64])
     ensures { (k : ℕ) → k < 64 * length out.old → in_set out.new k ≡ ltb k count }
 {
-    let mut b = 0;
-    while b < out.len() {
-        out[b] = whole_word(count, b);
-        b += 1;
+    for (b, word) in out.iter_mut().enumerate() {
+        *word = whole_word(count, b);
     }
 }
 
@@ -20,12 +18,5 @@ pub fn whole_into(count: usize, out: &mut [u64])
 pub fn has_row(set: &[u64]) -> bool
     ensures { result ≡ found (first (λ b. not (eqb (get_or set.now b 0) 0)) 0 (length set.now)) }
 {
-    let mut b = 0;
-    while b < set.len() {
-        if set[b] != 0 {
-            return true;
-        }
-        b += 1;
-    }
-    false
+    set.iter().any(|word| *word != 0)
 }

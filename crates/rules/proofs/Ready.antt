@@ -3,7 +3,7 @@ use mathlib.Core.Path.{◌≡◌, refl, ◌∙◌}
 use mathlib.Core.Logic.{◌≢◌}
 use mathlib.Core.Bool.{Bool, true, false, cond, ◌||◌}
 use mathlib.Core.List.{List}
-use mathlib.Core.Option.{none}
+use Rattle.std.specs.Prelude.{None}
 use Prim.Native.Nat.{ℕ, ◌+◌, ◌*◌, ◌^◌, ◌<◌}
 use lib.Dec.{T}
 use Rattle.hazard.specs.Cube.{has, span}
@@ -22,7 +22,7 @@ has_value true o h = tt
 has_value false true h = tt
 has_value false false h = h refl
 
-pub defined_ready : {n : ℕ} {w ts : List ℕ} → Planes n w → Listed n ts → defined_check n (table_in n w) ts ≡ none → Ready n w ts
+pub defined_ready : {n : ℕ} {w ts : List ℕ} → Planes n w → Listed n ts → defined_check n (table_in n w) ts ≡ None → Ready n w ts
 defined_ready {n} {w} {ts} p l e =
     record {
       planes = p;

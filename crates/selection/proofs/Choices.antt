@@ -2,7 +2,7 @@
 use mathlib.Core.Path.{◌≡◌, refl, sym, ◌∙◌}
 use mathlib.Core.Bool.{Bool}
 use mathlib.Core.List.{List, map}
-use mathlib.Core.Option.{Option, none, some}
+use Rattle.std.specs.Prelude.{Option, None, Some}
 use Prim.Native.Nat.{ℕ, ◌+◌, ◌≤◌, ◌<◌}
 use native.Mathlib.Omega.{arith}
 use lib.Dec.{T}
@@ -31,10 +31,10 @@ module _ (n : ℕ) (context : List ℕ) where
   check w = block_check n (off_in context) (vs n context) (required_in n w)
 
   -- Growth ends legal inside a dhf-prime.
-  legal_in : (w : ℕ) (p : Cube) → DhfPrime n (off_in context) (vs n context) p → T (inside (cube_in n w) p) → check w ≡ none
+  legal_in : (w : ℕ) (p : Cube) → DhfPrime n (off_in context) (vs n context) p → T (inside (cube_in n w) p) → check w ≡ None
   legal_in w p d t = go (grow n (off_in context) (vs n context) (cube_in n w)) (grow_ends n (off_in context) (vs n context) (wide n context) (masks_digits n _ _))
     where
-      go : (g : Growth) → Ends n (off_in context) (vs n context) (cube_in n w) g → blocked_by (required_in n w) g ≡ none
+      go : (g : Growth) → Ends n (off_in context) (vs n context) (cube_in n w) g → blocked_by (required_in n w) g ≡ None
       go (Legal c s) e = refl
       go (Blocked z s) e =
           absurd (blocked_none n (off_in context) (vs n context) (wide n context) e p ((prime-is n (off_in context) (vs n context) (wide n context) p).0 d).dhf (inside→ (cube_in n w) p t))
@@ -47,7 +47,7 @@ module _ (n : ℕ) (context : List ℕ) where
   pub turn-start : {required firsts products : List ℕ} {flags : List Bool} → Choosing (PrimeWord n (off_in context) (vs n context)) n required firsts products flags 0 0 → Turn required firsts products flags 0 0
   turn-start h = record { choosing = h; rest = left-start }
 
-  covered-legal : {required firsts products : List ℕ} {flags : List Bool} {m i : ℕ} → Choosing (PrimeWord n (off_in context) (vs n context)) n required firsts products flags m i → (k : ℕ) → k < i → check (get_or required k 0) ≡ none
+  covered-legal : {required firsts products : List ℕ} {flags : List Bool} {m i : ℕ} → Choosing (PrimeWord n (off_in context) (vs n context)) n required firsts products flags m i → (k : ℕ) → k < i → check (get_or required k 0) ≡ None
   covered-legal {required} {firsts} {products} {flags} {m} s k l =
       let (j, h, t) = covered_e (network_in n (take m products)) (cube_in n (get_or required k 0)) (s.covers k l) in
       let a : j < length (take m products) = omega (arith, h, length-map (take m products) (cube_in n)) in
@@ -58,12 +58,12 @@ module _ (n : ℕ) (context : List ℕ) where
       → Choosing (PrimeWord n (off_in context) (vs n context)) n required firsts' products' flags' m' (i + 1) → Turn required firsts' products' flags' m' (i + 1)
   turn_next {i = i} s l h = record { choosing = h; rest = check_miss (block_check n (off_in context) (vs n context)) (required_in n) s.rest l (covered-legal h i (omega arith)) }
 
-  pub turn_blocked : {required firsts products : List ℕ} {flags : List Bool} {m i : ℕ} {q : Refusal} → Turn required firsts products flags m i → i < length required → check (get_or required i 0) ≡ some q
-      → blocking_of n (off_in context) (vs n context) (map (required_in n) required) ≡ some q
+  pub turn_blocked : {required firsts products : List ℕ} {flags : List Bool} {m i : ℕ} {q : Refusal} → Turn required firsts products flags m i → i < length required → check (get_or required i 0) ≡ Some q
+      → blocking_of n (off_in context) (vs n context) (map (required_in n) required) ≡ Some q
   turn_blocked s l e = sym (check_hit (block_check n (off_in context) (vs n context)) (required_in n) s.rest l e) ∙ e
 
   pub turn_end : {required firsts products : List ℕ} {flags : List Bool} {m i : ℕ} → Turn required firsts products flags m i → length required ≤ i
-      → (blocking_of n (off_in context) (vs n context) (map (required_in n) required) ≡ none) × Chosen n (off_in context) (vs n context) required firsts products m
+      → (blocking_of n (off_in context) (vs n context) (map (required_in n) required) ≡ None) × Chosen n (off_in context) (vs n context) required firsts products m
   turn_end s h = (
     sym (left_end s.rest h),
     record { noted = choosing_end s.choosing h; low = omega (arith, s.choosing.few, s.choosing.low, s.choosing.room); good = s.choosing.good },

@@ -3,7 +3,7 @@ use mathlib.Core.Path.{◌≡◌, sym, ap, ◌∙◌, subst}
 use mathlib.Core.Bool.{Bool}
 use mathlib.Core.List.Memᴰ
 use mathlib.Core.List.{List, ◌++◌, map, Memᴰ}
-use mathlib.Core.Option.{none}
+use Rattle.std.specs.Prelude.{None}
 use Prim.Native.Nat.{ℕ, ◌+◌, ◌-◌, ◌<◌}
 use native.Mathlib.Nat.{sub-zero}
 use native.Mathlib.Omega.{arith}
@@ -59,7 +59,7 @@ module _ {n : ℕ} {off : ℕ → Bool} {vs : List Privileged} {required firsts 
           few = omega (arith, length-drop r after, size, length-map required (required_in n), chosen.noted.few, taken);
         }
 
-    pub kept_from : blocking_of n off vs (map (required_in n) required) ≡ none → (rest : List ℕ) → KeptFrom n off vs (map (required_in n) required) (after ++ rest) r m
+    pub kept_from : blocking_of n off vs (map (required_in n) required) ≡ None → (rest : List ℕ) → KeptFrom n off vs (map (required_in n) required) (after ++ rest) r m
     kept_from e rest =
         record {
           free = e;

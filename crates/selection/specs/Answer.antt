@@ -1,9 +1,10 @@
 -- The definitions' answer, for the code's.
+use Rattle.std.specs.Prelude.{ℕ, Result, Ok, Err}
 use Rattle.hazard.specs.Minimal as minimal
+use Rattle.refusal.specs.declared.refusal.Refusal.{Refusal}
 use Rattle.refusal.specs.Answer.{refusal_of}
-use Rattle.selection.specs.declared.minimised.Minimised.{Minimised}
-use Rattle.selection.specs.declared.minimised.Minimised.TheVariants.{Products, Refused}
 
-abbrev pub minimised_of : Minimised → minimal.Minimised
-minimised_of (Products r) = minimal.written r
-minimised_of (Refused r) = minimal.declined (refusal_of r)
+-- How many products there are, or why there are none.
+abbrev pub minimised_of : Result ℕ Refusal → minimal.Minimised
+minimised_of (Ok m) = minimal.written m
+minimised_of (Err r) = minimal.declined (refusal_of r)

@@ -1,6 +1,6 @@
 -- What the forward choice leaves.
 use Rattle.std.specs.Prelude.{◌≡◌, Bool, List, map, ℕ, ◌≤◌, ◌<◌, length, get_or, take}
-use Rattle.std.proofs.Math.Option.{Option, none, some}
+use Rattle.std.specs.Prelude.{Option, None, Some, Result, Ok, Err}
 use Rattle.hazard.specs.Search.{first_of}
 use Rattle.hazard.specs.Sets.{Required, Privileged}
 use Rattle.hazard.specs.Implicant.{DhfPrime}
@@ -9,8 +9,7 @@ use Rattle.hazard.specs.Minimal.{block_check}
 use Rattle.cube.specs.Entry.{required_in, CleanWord, cube_in}
 use Rattle.refusal.specs.Answer.{refusal_of}
 use Rattle.choice.specs.Keep.{Noted}
-use Rattle.selection.specs.declared.minimised.Minimised.{Minimised}
-use Rattle.selection.specs.declared.minimised.Minimised.TheVariants.{Products, Refused}
+use Rattle.refusal.specs.declared.refusal.Refusal as code
 
 -- The first of the required cubes that blocks.
 abbrev pub blocking_of : ℕ → (ℕ → Bool) → List Privileged → List Required → Option Refusal
@@ -28,7 +27,7 @@ pub record Chosen (n : ℕ) (off : ℕ → Bool) (vs : List Privileged) (require
   pub good : (k : ℕ) → k < m → PrimeWord n off vs (get_or products k 0)
 
 -- The choice's answer: no required cube blocks, and m products are chosen; or the refusal of the first that blocks.
-abbrev pub Choice : ℕ → (ℕ → Bool) → List Privileged → (required firsts products : List ℕ) → Minimised → Type 0
-Choice n off vs required firsts products (Products m) =
-    (blocking_of n off vs (map (required_in n) required) ≡ none) × Chosen n off vs required firsts products m
-Choice n off vs required firsts products (Refused q) = blocking_of n off vs (map (required_in n) required) ≡ some (refusal_of q)
+abbrev pub Choice : ℕ → (ℕ → Bool) → List Privileged → (required firsts products : List ℕ) → Result ℕ code.Refusal → Type 0
+Choice n off vs required firsts products (Ok m) =
+    (blocking_of n off vs (map (required_in n) required) ≡ None) × Chosen n off vs required firsts products m
+Choice n off vs required firsts products (Err q) = blocking_of n off vs (map (required_in n) required) ≡ Some (refusal_of q)

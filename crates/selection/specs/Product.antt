@@ -1,6 +1,6 @@
 -- What holds of a product on its way to be chosen.
 use Rattle.std.specs.Prelude.{◌≡◌, Bool, List, ℕ, T}
-use Rattle.std.proofs.Math.Option.{some}
+use Rattle.std.specs.Prelude.{Some, Result, Ok, Err}
 use Rattle.hazard.specs.Cube as digits
 use Rattle.hazard.specs.Cube.{inside}
 use Rattle.hazard.specs.Sets.{Privileged}
@@ -10,8 +10,7 @@ use Rattle.cube.specs.declared.mask.Cube.{Cube}
 use Rattle.cube.specs.Mask.{cube_of, Clean}
 use Rattle.cube.specs.Entry.{required_in, cube_in}
 use Rattle.refusal.specs.Answer.{refusal_of}
-use Rattle.selection.specs.declared.product.Made.{Made}
-use Rattle.selection.specs.declared.product.Made.TheVariants.{Product, Blocked}
+use Rattle.refusal.specs.declared.refusal.Refusal.{Refusal}
 
 -- The cube r is one of n inputs around c, and a dhf-implicant if c is.
 pub record Over (n : ℕ) (off : ℕ → Bool) (vs : List Privileged) (c r : Cube) : Type 0 where
@@ -26,6 +25,6 @@ pub record PrimeOver (n : ℕ) (off : ℕ → Bool) (vs : List Privileged) (c : 
   pub around : T (inside c (cube_of n r))
 
 -- What is made for the required cube of the word w: a dhf-prime around it, or its refusal.
-abbrev pub MadeFor : ℕ → (ℕ → Bool) → List Privileged → ℕ → Made → Type 0
-MadeFor n off vs w (Product c) = PrimeOver n off vs (cube_in n w) c
-MadeFor n off vs w (Blocked q) = block_check n off vs (required_in n w) ≡ some (refusal_of q)
+abbrev pub MadeFor : ℕ → (ℕ → Bool) → List Privileged → ℕ → Result Cube Refusal → Type 0
+MadeFor n off vs w (Ok c) = PrimeOver n off vs (cube_in n w) c
+MadeFor n off vs w (Err q) = block_check n off vs (required_in n w) ≡ Some (refusal_of q)

@@ -8,12 +8,12 @@ ghost use Rattle.blocks.specs.Blocks.{stride};
 ghost use Rattle.flags.specs.Rows.{Inside};
 ghost use Rattle.selection.specs.Choose.{Choice};
 
-use crate::minimised::Minimised;
-use crate::product::{Made, product_for};
+use crate::product::product_for;
 use cube::entry::pack;
 use flags::first::note;
 use flags::flag::flag_product;
 use hazard::limits::MOST_REQUIRED;
+use refusal::refusal::Refusal;
 use rows::whole::whole_into;
 
 // For each required cube whose flag is not set, the product for it is chosen, and those in it are flagged. One that lies in a product
@@ -26,7 +26,7 @@ pub fn choose(
     columns: &[u64],
     firsts: &mut [u16],
     products: &mut [u64],
-) -> Minimised
+) -> Result<usize, Refusal>
     requires ready { Ready n context.now × (length required.now ≤ most_required) × (length firsts.old ≡ length required.now) × (length required.now ≤ length products.old) }
     requires inside { Inside n required.now columns.now × (length required.now ≤ 64 * stride columns.now) }
     requires clean { (k : ℕ) → CleanWord n (get_or required.now k 0) }
@@ -38,29 +38,22 @@ pub fn choose(
     let mut taken = [0u64; (MOST_REQUIRED + 63) / 64];
     whole_into(required.len(), &mut uncovered[0..b]);
     let mut m = 0;
-    let mut i = 0;
-    while i < required.len() {
-        let r = i;
-        i += 1;
-        if !flags[r] {
-            let made = product_for(n, context, required, columns, &uncovered[0..b], r);
-            match made {
-                Made::Blocked(q) => return Minimised::Refused(q),
-                Made::Product(c) => {
-                    products[m] = pack(0, 0, c);
-                    flag_product(
-                        n,
-                        columns,
-                        c,
-                        &mut uncovered[0..b],
-                        &mut taken[0..b],
-                        &mut flags,
-                    );
-                    note(firsts, &taken[0..b], m as u16);
-                    m += 1;
-                }
-            }
+    for i in 0..required.len() {
+        if flags[i] {
+            continue;
         }
+        let c = product_for(n, context, required, columns, &uncovered[0..b], i)?;
+        products[m] = pack(0, 0, c);
+        flag_product(
+            n,
+            columns,
+            c,
+            &mut uncovered[0..b],
+            &mut taken[0..b],
+            &mut flags,
+        );
+        note(firsts, &taken[0..b], m as u16);
+        m += 1;
     }
-    Minimised::Products(m)
+    Ok(m)
 }

@@ -2,7 +2,6 @@
 #![tactic(auto)]
 
 pub mod choose;
-pub mod minimised;
 pub mod near;
 pub mod product;
 pub mod select;

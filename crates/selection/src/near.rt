@@ -11,14 +11,11 @@ fn losing(columns: &[u64], b: usize, c: Cube, i: usize) -> u64
 {
     let zero = word_at(columns, i, 0, b);
     let one = word_at(columns, i, 1, b);
-    let d = digit_at(c, i);
-    if d == 0 {
-        return one;
+    match digit_at(c, i) {
+        0 => one,
+        1 => zero,
+        _ => zero | one,
     }
-    if d == 1 {
-        return zero;
-    }
-    zero | one
 }
 
 // The rows of block b that lose at most two literals: supercubes with the others mostly have a zero. The literals are counted for all 64
@@ -29,14 +26,12 @@ pub(crate) fn near(n: usize, columns: &[u64], b: usize, c: Cube) -> u64
     let mut low = 0u64;
     let mut high = 0u64;
     let mut many = 0u64;
-    let mut i = 0;
-    while i < n {
+    for i in 0..n {
         let lost = losing(columns, b, c, i);
         let carry = low & lost;
-        low = low ^ lost;
-        many = many | (high & carry);
-        high = high ^ carry;
-        i += 1;
+        low ^= lost;
+        many |= high & carry;
+        high ^= carry;
     }
-    u64::MAX ^ (many | (low & high))
+    !(many | (low & high))
 }

@@ -11,11 +11,10 @@ ghost use Rattle.selection.specs.Product.{Over, PrimeOver, MadeFor};
 use crate::near::near;
 use cube::entry::cube_in;
 use cube::mask::{Cube, lies_inside};
-use expand::blocking::refusal_of;
 use expand::growth::{Grown, grow};
 use expand::prime::{absorbed, expanded};
 use refusal::refusal::Refusal;
-use rows::member::without_lowest;
+use rows::member::Members;
 
 // The cube grown over required cube k, where that ends legal; nothing to do where it lies inside already.
 fn grown_over(n: usize, context: &[u64], required: &[u64], c: Cube, k: usize) -> Cube
@@ -52,20 +51,10 @@ fn widened(
 {
     let b = i / 64;
     let mut p = c;
-    let mut tries = uncovered[b] & near(n, columns, b, c);
-    while tries != 0 {
-        let k = 64 * b + u64::trailing_zeros(tries) as usize;
-        p = grown_over(n, context, required, p, k);
-        tries = without_lowest(tries);
+    for row in Members::of(uncovered[b] & near(n, columns, b, c)) {
+        p = grown_over(n, context, required, p, 64 * b + row);
     }
     expanded(n, context, p)
-}
-
-// What is made for a required cube: its product, or its refusal.
-#[derive(Clone, Copy)]
-pub enum Made {
-    Product(Cube),
-    Blocked(Refusal),
 }
 
 // Supercube-dhf of required cube i, widened; or refusal 10, where its growth ends blocked.
@@ -76,7 +65,7 @@ pub fn product_for(
     columns: &[u64],
     uncovered: &[u64],
     i: usize,
-) -> Made
+) -> Result<Cube, Refusal>
     requires ready { Ready n context.now × (i < length required.now) }
     requires fits { Fits columns.now uncovered.now × (i < 64 * length uncovered.now) }
     requires clean { (k : ℕ) → CleanWord n (get_or required.now k 0) }
@@ -86,7 +75,7 @@ pub fn product_for(
     let cube = cube_in(w);
     let grown = grow(n, context, cube);
     let Grown::Legal(c, _) = grown else {
-        return Made::Blocked(refusal_of(w, grown));
+        return Err(grown.refusal_of(w));
     };
-    Made::Product(widened(n, context, required, columns, uncovered, i, c))
+    Ok(widened(n, context, required, columns, uncovered, i, c))
 }

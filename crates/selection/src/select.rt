@@ -8,18 +8,11 @@ ghost use Rattle.blocks.specs.Blocks.{stride};
 ghost use Rattle.selection.specs.Select.{Selects};
 
 use crate::choose::choose;
-use crate::minimised::Minimised;
 use blocks::fill::blocks_into;
 use choice::keep::irredundant_from;
 use columns::relation::Relation;
 use refusal::refusal::Refusal;
-
-// The places from which and to which the words of the network stand, or the refusal of the first required cube that blocks.
-#[derive(Clone, Copy)]
-pub enum Selected {
-    Words(usize, usize),
-    Refused(Refusal),
-}
+use std::ops::Range;
 
 // Products are chosen forwards, and those that can be dropped are dropped backwards; or a required cube blocks. `columns` is room for the
 // columns of the required cubes, `firsts` for the place of each one's first product.
@@ -30,31 +23,21 @@ pub fn select(
     columns: &mut [u64],
     firsts: &mut [u16],
     products: &mut [u64],
-) -> Selected
+) -> Result<Range<usize>, Refusal>
     requires ready { Ready n context.now × (length required.now ≤ most_required) × (length required.now ≤ 64 * stride columns.old) × (length required.now ≤ length firsts.old) × (length required.now ≤ length products.old) }
     requires clean { (k : ℕ) → CleanWord n (get_or required.now k 0) }
     ensures { Selects n (off_in context.now) (privileged_of n context.now) (map (required_in n) required.now) products.new result }
 {
     let count = required.len();
     blocks_into(Relation::Inside, n, required, columns);
-    match choose(
+    let m = choose(
         n,
         context,
         required,
         columns,
         &mut firsts[0..count],
         products,
-    ) {
-        Minimised::Refused(q) => Selected::Refused(q),
-        Minimised::Products(m) => {
-            let from = irredundant_from(
-                n,
-                required,
-                columns,
-                &firsts[0..count],
-                &mut products[0..m],
-            );
-            Selected::Words(from, m)
-        }
-    }
+    )?;
+    let from = irredundant_from(n, required, columns, &firsts[0..count], &mut products[0..m]);
+    Ok(from..m)
 }

@@ -1,9 +1,8 @@
 -- The order of words.
 pub mod Lowest
 pub mod Words
--- Merging and sorting, for any order of words.
+-- Sorting.
 pub mod Sorted
-pub mod Merging
-pub mod Halving
+pub mod Swaps
 -- Networks in another order.
 pub mod Reordered

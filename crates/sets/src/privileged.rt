@@ -11,15 +11,23 @@ ghost use Rattle.sets.specs.Held.{Held, privileged_by};
 use cube::entry::pack;
 use cube::mask::span_of;
 use kinds::kind::{Kind, is_dynamic, kind_of, start_point};
-use kinds::transition::{end_of, start_of};
+use kinds::transition::{Transition, transition_at};
 
-// The privileged cube of transition t from a to b, stored at a place where the transition is dynamic; the next place.
-fn store_privileged(n: usize, k: Kind, t: u16, a: u16, b: u16, out: &mut [u64], at: usize) -> usize
-    requires { (n ≤ 10) × (a < 2 ^ n) × (b < 2 ^ n) × (at < length out.old) }
-    ensures { Stored n (privileged_in n) out.old out.new at result (cond (dynamic (kind_is k)) (privileged_by n (kind_is k) t a b ∷ []) []) }
+// The privileged cube of transition t, which is of the kind k, stored at a place where it is dynamic; the next place.
+fn store_privileged(
+    n: usize,
+    k: Kind,
+    t: u16,
+    transition: Transition,
+    out: &mut [u64],
+    at: usize,
+) -> usize
+    requires { (n ≤ 10) × (transition.start < 2 ^ n) × (transition.end < 2 ^ n) × (at < length out.old) }
+    ensures { Stored n (privileged_in n) out.old out.new at result (cond (dynamic (kind_is k)) (privileged_by n (kind_is k) t transition.start transition.end ∷ []) []) }
 {
     if is_dynamic(k) {
-        out[at] = pack(t, start_point(k, a, b), span_of(n, a, b));
+        let Transition { start, end } = transition;
+        out[at] = pack(t, start_point(k, start, end), span_of(n, start, end));
         return at + 1;
     }
     at
@@ -33,12 +41,10 @@ pub fn privileged_into(n: usize, context: &[u64], transitions: &[u16], out: &mut
 {
     let count = transitions.len() / 2;
     let mut k = 0;
-    let mut t = 0;
-    while t < count {
-        let a = start_of(transitions, t);
-        let b = end_of(transitions, t);
-        k = store_privileged(n, kind_of(context, a, b), t as u16, a, b, out, k);
-        t += 1;
+    for t in 0..count {
+        let transition = transition_at(transitions, t);
+        let kind = kind_of(context, transition.start, transition.end);
+        k = store_privileged(n, kind, t as u16, transition, out, k);
     }
     k
 }

@@ -13,11 +13,11 @@ ghost use Rattle.sets.specs.Held.{Held, required_by};
 
 use context::places::ones;
 use cube::mask::{Cube, span_of};
-use entries::store::{Corner, store, word_into};
+use entries::store::{store, word_into};
 use kinds::kind::{Kind, kind_of};
-use kinds::transition::{end_of, start_of};
+use kinds::transition::{Transition, transition_at};
 use moves::turn::last_points;
-use points::walk::{first_step, next_step, walk_over};
+use points::walk::{steps_of, walk_over};
 use points::word::set_points;
 
 // Those of a dynamic transition t, between its start point s and the labels of [S,E], in order of label.
@@ -34,13 +34,10 @@ fn dynamic_into(
     requires room { at + length (those (maximal_label n (table_in n context.now) s e) 0 (2 ^ n)) ≤ 2 ^ 32 }
     ensures { Stored n (required_in n) out.old out.new at result (map (required_to n t s) (those (maximal_label n (table_in n context.now) s e) 0 (2 ^ n))) }
 {
-    let walk = walk_over(n, span_of(n, s, e));
     let mut k = at;
-    let mut step = first_step(walk);
-    while step.word < 16 {
+    for step in steps_of(walk_over(n, span_of(n, s, e))) {
         let labels = last_points(n, ones(context), s, e, step);
-        k = word_into(n, t, Corner::At(s), step.word, labels, out, k);
-        step = next_step(walk, step);
+        k = word_into(n, t, Some(s), step.word, labels, out, k);
     }
     k
 }
@@ -53,42 +50,40 @@ fn static_into(n: usize, t: u16, a: u16, b: u16, out: &mut [u64], at: usize) -> 
     store(n, t, a, b, out, at)
 }
 
-// The points of a set, each a required cube of its own, in ascending order, with t for their transition.
+// The points of a set, each a required cube of its own, in ascending order, with t for their transition. Its loop is not shared with that of
+// the labels: what they read of a step differs, and a closure for it would have a contract longer than the loop.
 fn points_into(n: usize, t: u16, set: &[u64], out: &mut [u64], at: usize) -> usize
     requires { (n ≤ 10) × (length set.now ≡ 16) × (at + 1024 ≤ 2 ^ 32) }
     ensures { Stored n (required_in n) out.old out.new at result (single_points n t (in_set set.now)) }
 {
-    let walk = walk_over(n, Cube { care: 0, value: 0 });
     let mut k = at;
-    let mut step = first_step(walk);
-    while step.word < 16 {
+    for step in steps_of(walk_over(n, Cube { care: 0, value: 0 })) {
         let points = set_points(set, step);
-        k = word_into(n, t, Corner::Label, step.word, points, out, k);
-        step = next_step(walk, step);
+        k = word_into(n, t, None, step.word, points, out, k);
     }
     k
 }
 
-// Those of transition t from a to b, by its kind.
+// Those of transition t, which is of the kind k.
 fn transition_into(
     n: usize,
     context: &[u64],
     k: Kind,
     t: u16,
-    a: u16,
-    b: u16,
+    transition: Transition,
     out: &mut [u64],
     at: usize,
 ) -> usize
-    requires planes { Planes n context.now × (a < 2 ^ n) × (b < 2 ^ n) }
-    requires room { at + length (required_by n (table_in n context.now) (kind_is k) t a b) ≤ 2 ^ 32 }
-    ensures { Stored n (required_in n) out.old out.new at result (required_by n (table_in n context.now) (kind_is k) t a b) }
+    requires planes { Planes n context.now × (transition.start < 2 ^ n) × (transition.end < 2 ^ n) }
+    requires room { at + length (required_by n (table_in n context.now) (kind_is k) t transition.start transition.end) ≤ 2 ^ 32 }
+    ensures { Stored n (required_in n) out.old out.new at result (required_by n (table_in n context.now) (kind_is k) t transition.start transition.end) }
 {
+    let Transition { start, end } = transition;
     match k {
         Kind::Low => at,
-        Kind::Rise => dynamic_into(n, context, t, b, a, out, at),
-        Kind::Fall => dynamic_into(n, context, t, a, b, out, at),
-        Kind::High => static_into(n, t, a, b, out, at),
+        Kind::Rise => dynamic_into(n, context, t, end, start, out, at),
+        Kind::Fall => dynamic_into(n, context, t, start, end, out, at),
+        Kind::High => static_into(n, t, start, end, out, at),
     }
 }
 
@@ -106,12 +101,10 @@ pub fn required_into(
 {
     let count = transitions.len() / 2;
     let mut k = 0;
-    let mut t = 0;
-    while t < count {
-        let a = start_of(transitions, t);
-        let b = end_of(transitions, t);
-        k = transition_into(n, context, kind_of(context, a, b), t as u16, a, b, out, k);
-        t += 1;
+    for t in 0..count {
+        let transition = transition_at(transitions, t);
+        let kind = kind_of(context, transition.start, transition.end);
+        k = transition_into(n, context, kind, t as u16, transition, out, k);
     }
     points_into(n, count as u16, singles, out, k)
 }

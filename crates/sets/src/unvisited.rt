@@ -8,7 +8,7 @@ ghost use Rattle.sets.specs.Unvisited.{Unvisited};
 
 use context::places::ones;
 use cube::mask::span_of;
-use kinds::transition::{end_of, start_of};
+use kinds::transition::transition_at;
 use points::union::cube_into;
 
 // The points that some transition visits: the union of the cubes [A,B].
@@ -16,12 +16,9 @@ fn visited_into(n: usize, transitions: &[u16], set: &mut [u64])
     requires { Listed n transitions.now × (length set.old ≡ 16) }
     ensures { Joined (λ x. visited n transitions.now x && ltb x (2 ^ n)) set.old set.new }
 {
-    let count = transitions.len() / 2;
-    let mut t = 0;
-    while t < count {
-        let cube = span_of(n, start_of(transitions, t), end_of(transitions, t));
-        cube_into(n, cube, set);
-        t += 1;
+    for t in 0..transitions.len() / 2 {
+        let transition = transition_at(transitions, t);
+        cube_into(n, span_of(n, transition.start, transition.end), set);
     }
 }
 
@@ -33,9 +30,7 @@ pub fn unvisited_into(n: usize, context: &[u64], transitions: &[u16], out: &mut 
     let mut visited = [0u64; 16];
     visited_into(n, transitions, &mut visited);
     let ones = ones(context);
-    let mut w = 0;
-    while w < 16 {
+    for w in 0..16 {
         out[w] = ones[w] ^ (ones[w] & visited[w]);
-        w += 1;
     }
 }

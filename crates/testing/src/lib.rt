@@ -2,7 +2,6 @@
 #![tactic(auto)]
 
 pub mod calls;
-pub mod count;
 pub mod marks;
 pub mod products;
 pub mod report;

@@ -3,14 +3,7 @@
 // No product has such a byte.
 pub const MARK: u8 = 9;
 
-// Whether each byte from `from` on is the mark.
-pub fn is_marked(bytes: &[u8], from: usize) -> bool {
-    let mut i = from;
-    while i < bytes.len() {
-        if bytes[i] != MARK {
-            return false;
-        }
-        i += 1;
-    }
-    true
+// Whether each byte is the mark.
+pub fn is_marked(bytes: &[u8]) -> bool {
+    bytes.iter().all(|b| *b == MARK)
 }

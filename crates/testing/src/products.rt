@@ -1,73 +1,48 @@
 // The products of a network, n bytes each.
-ghost use Rattle.std.specs.Prelude.{◌≤◌, length};
+use std::fmt;
 
-use hazard::limits::MOST_REQUIRED;
-
-// How many of the buffer's bytes the products take; 0 where they are more than it has.
-pub fn bytes_of(n: usize, count: usize, buffer: &[u8]) -> usize
-    ensures { result ≤ length buffer.now }
-{
-    if 10 < n {
-        return 0;
-    }
-    if MOST_REQUIRED < count {
-        return 0;
-    }
-    let end = n * count;
-    if buffer.len() < end {
-        return 0;
-    }
-    end
-}
-
-fn print_digit(d: u8) {
-    io::print_decimal(1, d as u64);
-}
-
-// The products' bytes, a space before each product.
-pub fn print_products(n: usize, bytes: &[u8]) {
-    if n == 0 {
-        return;
-    }
-    let mut i = 0;
-    while i < bytes.len() {
-        if i % n == 0 {
-            io::write_all(1, b" ");
-        }
-        print_digit(bytes[i]);
-        i += 1;
+// The bytes of the network at the buffer's beginning, and the rest of the buffer. A buffer that is shorter than the network has none.
+pub fn network_and_rest(n: usize, count: usize, buffer: &[u8]) -> (&[u8], &[u8]) {
+    match n.checked_mul(count) {
+        Some(end) if end <= buffer.len() => buffer.split_at(end),
+        _ => buffer.split_at(0),
     }
 }
 
-// Whether the first byte at which two products differ is lower in the first.
-fn comes_before(p: &[u8], q: &[u8]) -> bool {
-    let mut i = 0;
-    while i < p.len() {
-        if q.len() <= i {
-            return false;
+// The digits of a product.
+#[derive(Clone, Copy)]
+struct Product<'a>(&'a [u8]);
+
+impl<'a> fmt::Display for Product<'a> {
+    fn fmt<W: fmt::Write>(&self, f: &mut fmt::Formatter<W>) -> fmt::Result {
+        for digit in self.0 {
+            write!(f, "{digit}")?;
         }
-        if p[i] != q[i] {
-            return p[i] < q[i];
-        }
-        i += 1;
+        Ok(())
     }
-    false
+}
+
+// The products, a space before each. There is at least one input where there are any.
+#[derive(Clone, Copy)]
+pub struct Products<'a> {
+    pub n: usize,
+    pub bytes: &'a [u8],
+}
+
+impl<'a> fmt::Display for Products<'a> {
+    fn fmt<W: fmt::Write>(&self, f: &mut fmt::Formatter<W>) -> fmt::Result {
+        if self.n == 0 {
+            return Ok(());
+        }
+        for product in self.bytes.chunks(self.n) {
+            let digits = Product(product);
+            write!(f, " {digits}")?;
+        }
+        Ok(())
+    }
 }
 
 // Whether each product comes before the next.
 pub fn in_sequence(n: usize, bytes: &[u8]) -> bool {
-    if n == 0 {
-        return false;
-    }
-    if 10 < n {
-        return false;
-    }
-    let mut at = n;
-    while at < bytes.len() {
-        if !comes_before(&bytes[at - n..at], &bytes[at..]) {
-            return false;
-        }
-        at += n;
-    }
-    true
+    n != 0 && bytes.chunks_exact(n).is_sorted_by(|p, q| p < q)
 }

@@ -1,39 +1,42 @@
 // How the calls' answers are printed.
-use crate::count::print_count;
 use conditions::fault::Verdict;
+use refusal::fields::Fields;
 use refusal::refusal::Refusal;
-
-// A space and a field.
-fn print_field(x: u16) {
-    print_count(b" ", x as u64);
-}
+use std::fmt;
 
 // The refusal's number and fields.
-pub fn print_refusal(r: Refusal) {
-    io::write_all(1, b"refused");
-    print_field(r.number);
-    print_field(r.transition);
-    print_field(r.point);
-    print_field(r.steps);
-    print_field(r.lowest);
-    print_field(r.product);
-}
+#[derive(Clone, Copy)]
+pub struct RefusalText(pub Refusal);
 
-fn print_fault(name: &[u8], first: u16, second: u16) {
-    io::write_all(1, name);
-    print_field(first);
-    print_field(second);
+impl fmt::Display for RefusalText {
+    fn fmt<W: fmt::Write>(&self, f: &mut fmt::Formatter<W>) -> fmt::Result {
+        let Fields {
+            number,
+            transition,
+            point,
+            steps,
+            lowest,
+            product,
+        } = self.0.fields();
+        write!(
+            f,
+            "refused {number} {transition} {point} {steps} {lowest} {product}"
+        )
+    }
 }
 
 // The verdict's number by document 01, and the fields that it names.
-pub fn print_verdict(v: Verdict) {
-    match v {
-        Verdict::Refused(r) => print_refusal(r),
-        Verdict::Passed => {
-            io::write_all(1, b"1 passed");
+#[derive(Clone, Copy)]
+pub struct VerdictText(pub Result<Verdict, Refusal>);
+
+impl fmt::Display for VerdictText {
+    fn fmt<W: fmt::Write>(&self, f: &mut fmt::Formatter<W>) -> fmt::Result {
+        match self.0 {
+            Err(r) => RefusalText(r).fmt(f),
+            Ok(Verdict::Passed) => write!(f, "1 passed"),
+            Ok(Verdict::HoldsZero(j, x)) => write!(f, "2 product, point: {j} {x}"),
+            Ok(Verdict::Intersects(j, k)) => write!(f, "3 product, transition: {j} {k}"),
+            Ok(Verdict::Uncovered(k, x)) => write!(f, "4 transition, label: {k} {x}"),
         }
-        Verdict::HoldsZero(j, x) => print_fault(b"2 product, point:", j, x),
-        Verdict::Intersects(j, k) => print_fault(b"3 product, transition:", j, k),
-        Verdict::Uncovered(k, x) => print_fault(b"4 transition, label:", k, x),
     }
 }

@@ -1,7 +1,7 @@
 -- The checks, one list after the other, and what they leave to be judged.
 use mathlib.Core.Path.{◌≡◌, sym, ap, ◌∙◌}
 use mathlib.Core.List.{List}
-use mathlib.Core.Option.{Option, none, some}
+use Rattle.std.specs.Prelude.{Option, None, Some}
 use Prim.Native.Nat.{ℕ}
 use Rattle.hazard.specs.Search.{first_of}
 use Rattle.hazard.specs.Refusal.{Refusal, input_checks, Accepted}
@@ -13,17 +13,17 @@ use Rattle.network_bytes.specs.Network.{Sound}
 
 -- The verdict that a refusal, or none, leads to.
 abbrev judgement : ℕ → List ℕ → List ℕ → List ℕ → Option Refusal → Verdict
-judgement n f ts bytes o = elim o [ some r ↦ refused r | none ↦ fault n f ts (products n bytes) ]
+judgement n f ts bytes o = elim o [ Some r ↦ refused r | None ↦ fault n f ts (products n bytes) ]
 
 module _ (n : ℕ) (f ts bytes : List ℕ) where
-  pub input-refused : {r : Refusal} → some r ≡ first_of (input_checks n f ts) → Verified n f ts bytes (refused r)
+  pub input-refused : {r : Refusal} → Some r ≡ first_of (input_checks n f ts) → Verified n f ts bytes (refused r)
   input-refused e = verified n f ts bytes (ap (judgement n f ts bytes) (sym (first_of-left (input_checks n f ts) (network_checks n bytes) (sym e))))
 
   module _ (ok : Accepted n f ts) where
-    pub network-refused : {r : Refusal} → some r ≡ first_of (network_checks n bytes) → Verified n f ts bytes (refused r)
+    pub network-refused : {r : Refusal} → Some r ≡ first_of (network_checks n bytes) → Verified n f ts bytes (refused r)
     network-refused e = verified n f ts bytes (ap (judgement n f ts bytes) (e ∙ sym (first_of-right (input_checks n f ts) (network_checks n bytes) ok)))
 
-    pub network_sound : first_of (network_checks n bytes) ≡ none → Sound n bytes
+    pub network_sound : first_of (network_checks n bytes) ≡ None → Sound n bytes
     network_sound e =
         let (even, few) = products_fit n bytes (first_of-none (network_checks n bytes) e (search entries)) in
         record {
@@ -34,5 +34,5 @@ module _ (n : ℕ) (f ts bytes : List ℕ) where
           digits = checked_well_formed n f ts bytes (first_of-right (input_checks n f ts) (network_checks n bytes) ok ∙ e);
         }
 
-    pub network_judged : first_of (network_checks n bytes) ≡ none → {v : Verdict} → v ≡ fault n f ts (products n bytes) → Verified n f ts bytes v
+    pub network_judged : first_of (network_checks n bytes) ≡ None → {v : Verdict} → v ≡ fault n f ts (products n bytes) → Verified n f ts bytes v
     network_judged h e = verified n f ts bytes (e ∙ ap (judgement n f ts bytes) (sym (first_of-right (input_checks n f ts) (network_checks n bytes) ok ∙ h)))

@@ -6,7 +6,6 @@ ghost use Rattle.cube.specs.Entry.{required_in};
 ghost use Rattle.blocks.specs.Blocks.{stride};
 ghost use Rattle.context.specs.Context.{off_in, privileged_of};
 ghost use Rattle.legality.specs.Ready.{Ready};
-ghost use Rattle.checks.specs.Problem.{few_cubes};
 ghost use Rattle.conditions.specs.Answer.{verdict_of};
 ghost use Rattle.network_bytes.specs.Network.{Sound};
 ghost use Rattle.verifier.specs.Judge.{fault_of};
@@ -15,6 +14,11 @@ use checks::stored::FEW;
 use conditions::fault::{Verdict, first_fault};
 use hazard::limits::MOST_PRODUCTS;
 use network_bytes::read::read_network;
+
+// How many words the columns of so many products take.
+const FEW_COLUMNS: usize = 30 * ((FEW + 63) / 64);
+
+const MOST_COLUMNS: usize = 30 * ((MOST_PRODUCTS + 63) / 64);
 
 // The network's products are read as words into the lent room, and the conditions are tried on them.
 fn judge_with(
@@ -32,23 +36,19 @@ fn judge_with(
     first_fault(n, context, required, &products[0..count], columns)
 }
 
-// At most 64 products, in arrays of that size: an array is set to zero before it is used, and most networks are small.
-fn judge_few(n: usize, context: &[u64], required: &[u64], network: &[u8]) -> Verdict
-    requires { Ready n context.now × Sound n network.now × (length network.now / n ≤ few_cubes) }
+// At most ROWS products, in an array of that size; COLUMNS words hold the columns of so many. An array is set to zero before it is used, and
+// most networks are small: so there are two sizes.
+fn judge_sized<const ROWS: usize, const COLUMNS: usize>(
+    n: usize,
+    context: &[u64],
+    required: &[u64],
+    network: &[u8],
+) -> Verdict
+    requires { Ready n context.now × Sound n network.now × (length network.now / n ≤ ROWS) × (ROWS ≤ 64 * (COLUMNS / 30)) × (COLUMNS ≤ ROWS) × (ROWS ≤ most_products) }
     ensures { verdict_of result ≡ fault_of n (off_in context.now) (privileged_of n context.now) (map (required_in n) required.now) (spec.products n network.now) }
 {
-    let mut products = [0u64; FEW];
-    let mut columns = [0u64; 30 * ((FEW + 63) / 64)];
-    judge_with(n, context, required, network, &mut products, &mut columns)
-}
-
-// As many products as there can be.
-fn judge_many(n: usize, context: &[u64], required: &[u64], network: &[u8]) -> Verdict
-    requires { Ready n context.now × Sound n network.now × (length network.now / n ≤ most_products) }
-    ensures { verdict_of result ≡ fault_of n (off_in context.now) (privileged_of n context.now) (map (required_in n) required.now) (spec.products n network.now) }
-{
-    let mut products = [0u64; MOST_PRODUCTS];
-    let mut columns = [0u64; 30 * ((MOST_PRODUCTS + 63) / 64)];
+    let mut products = [0u64; ROWS];
+    let mut columns = [0u64; COLUMNS];
     judge_with(n, context, required, network, &mut products, &mut columns)
 }
 
@@ -58,7 +58,7 @@ pub fn judge(n: usize, context: &[u64], required: &[u64], network: &[u8]) -> Ver
     ensures { verdict_of result ≡ fault_of n (off_in context.now) (privileged_of n context.now) (map (required_in n) required.now) (spec.products n network.now) }
 {
     if network.len() / n <= FEW {
-        return judge_few(n, context, required, network);
+        return judge_sized::<FEW, FEW_COLUMNS>(n, context, required, network);
     }
-    judge_many(n, context, required, network)
+    judge_sized::<MOST_PRODUCTS, MOST_COLUMNS>(n, context, required, network)
 }

@@ -1,4 +1,3 @@
-pub mod Moving
 pub mod Ahead
 pub mod Phases
 pub mod Shows

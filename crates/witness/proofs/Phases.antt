@@ -6,8 +6,10 @@ use Prim.Native.Nat.{ℕ, ◌+◌, ◌-◌, ◌*◌, ◌/◌, ◌≤◌, ◌<◌
 use native.Mathlib.Numerals.{add-one}
 use native.Mathlib.Omega.{arith}
 use lib.Dec.{eqb}
-use lib.ListN.{length, set, take, drop, length-append}
-use lib.Seq.{sets-eq}
+use lib.ListN.{length, set, take, drop, length-append, length-drop}
+use lib.Seq.{sets-eq, take_at, drop_at}
+use Rattle.std.proofs.lemmas.List.{drop-drop}
+use Rattle.std.proofs.lemmas.Nat.{le-div, div_below}
 use native.Mathlib.Nat.{zero-add}
 use Rattle.hazard.specs.Cube.{Cube, bit}
 use Rattle.hazard.specs.Transition.{Kind}
@@ -17,13 +19,12 @@ use Rattle.hazard.proofs.Wire.{wire}
 use Rattle.hazard.specs.Verdict.{products}
 use Rattle.hazard.specs.Shown.{numbers}
 use Rattle.hazard.specs.Pulse.{phase_of, in_phase, pulse}
-use Rattle.hazard.proofs.Point.{dig, digits-length}
-use Rattle.hazard.proofs.Network.{well_formed→}
+use Rattle.hazard.proofs.Point.{dig}
 use Rattle.hazard.proofs.Verdict.{products-length}
 use Rattle.writing.specs.Wrote.{Wrote}
 use Rattle.writing.proofs.Writing.{wrote_none, wrote_then, wrote_long}
 use Rattle.network_bytes.specs.Network.{Sound}
-use Rattle.network_bytes.proofs.Bytes.{products_at}
+use Rattle.network_bytes.proofs.Bytes.{products_at, place_next}
 use Rattle.witness.specs.Phase.{moves, wire_if, in_phase_of}
 use Rattle.witness.specs.Shows.{Written}
 use Rattle.witness.proofs.Ahead.{passing-same, inputs_ahead, products_ahead, inputs-turn, inputs_end, products-turn, products-end}
@@ -140,15 +141,32 @@ module _ (k : Kind) (j a b q : ℕ) (net : Network) (before : List ℕ) (at : �
   pub products_wrote : {m : ℕ} → length net ≤ m → {out : List ℕ} {next : ℕ} → ProductsLeft out next m → Wrote before at (numbers (in_phase k j a b net q)) out next
   products_wrote {m} l s = writing_end (in_phase k j a b net q) before at (writing_as (in_phase k j a b net q) before at (products-end test a b net m l) s)
 
--- Product m of a network, as the part of its bytes from m × n on.
-module _ {n : ℕ} {bytes : List ℕ} (sound : Sound n bytes) {place m : ℕ} (e : place ≡ m * n) (l : m < length bytes / n) where
-  pub part_is : take (place + n - place) (drop place bytes) ≡ product_at (products n bytes) m
-  part_is =
-      let d : place + n - place ≡ n = omega arith in
-      rw (d, e) (sym (products_at n bytes m l))
+-- Product m of a network, as the chunk of its bytes that follows the first m products.
+module _ {n : ℕ} {bytes : List ℕ} (sound : Sound n bytes) (m : ℕ) (digits others : List ℕ) (parts : drop (m * n) bytes ≡ digits ++ others) (long : length digits ≡ n) where
+  place : m * n + n ≡ (m + 1) * n
+  place = place_next n (m * n) m refl
 
-  pub part_few : length (take (place + n - place) (drop place bytes)) ≤ 10
-  part_few = rw part_is (omega (arith, digits-length {n = n} (well_formed→ sound.digits m (omega (arith, products-length n bytes))), sound.small))
+  pub chunk_low : m < length bytes / n
+  chunk_low =
+      let l : length digits + length others ≡ length bytes - m * n = sym (length-append digits others) ∙ ap (λ (l : List ℕ). length l) (sym parts) ∙ length-drop (m * n) bytes in
+      let some = sound.some' in
+      let h : m + 1 ≤ length bytes / n = le-div (m + 1) (length bytes) n (omega arith) (omega (arith, l, place, long)) in
+      omega arith
+
+  pub chunk_is : digits ≡ product_at (products n bytes) m
+  chunk_is = sym (products_at n bytes m chunk_low ∙ ap (take n) parts ∙ take_at digits others n long)
+
+  pub chunk_few : length digits ≤ 10
+  chunk_few = omega (arith, sound.small)
+
+  pub chunk_rest : others ≡ drop ((m + 1) * n) bytes
+  chunk_rest = sym (ap (λ (k : ℕ). drop k bytes) (sym place) ∙ sym (drop-drop n (m * n) bytes) ∙ ap (drop n) parts ∙ drop_at digits others n long)
+
+-- With less than a product left, all are written.
+pub chunks_end : {n : ℕ} (bytes : List ℕ) (m : ℕ) → 0 < n → length (drop (m * n) bytes) < n → length (products n bytes) ≤ m
+chunks_end {n} bytes m some h =
+    let l : length bytes / n < m + 1 = div_below (length bytes) n (m + 1) some (omega (arith, length-drop (m * n) bytes, place_next n (m * n) m refl)) in
+    omega (arith, products-length n bytes)
 
 -- From the beginning of the buffer on: the numbers, then the buffer's old rest.
 wrote_whole : {before after numbers : List ℕ} {next : ℕ} → Wrote before 0 numbers after next → length numbers ≤ length before → after ≡ numbers ++ drop (length numbers) before

@@ -1,5 +1,5 @@
 -- The definitions' runs, for the code's.
-use Rattle.std.specs.Prelude.{◌≡◌, List, [], ◌++◌, ℕ, ◌*◌, ◌<◌, length, get_or, drop}
+use Rattle.std.specs.Prelude.{Option, None, Some, ◌≡◌, List, [], ◌++◌, ℕ, ◌*◌, ◌<◌, length, get_or, drop}
 use Rattle.hazard.specs.Transition.{count, start, end}
 use Rattle.hazard.specs.Cover.{Network}
 use Rattle.hazard.specs.Run.{Wire}
@@ -8,8 +8,6 @@ use Rattle.hazard.specs.Shown.{numbers}
 use Rattle.hazard.specs.Pulse as spec
 use Rattle.kinds.specs.Codes.{kind_is, kind_in}
 use Rattle.witness.specs.declared.pulse.Pulse.{Pulse}
-use Rattle.witness.specs.declared.pulse.Witness.{Witness}
-use Rattle.witness.specs.declared.pulse.Witness.TheVariants.{Run, Nothing}
 
 -- The wires that move in phase q.
 abbrev pub phase_in : Pulse → Network → ℕ → List Wire
@@ -19,9 +17,10 @@ phase_in p net q = spec.in_phase (kind_is p.kind) p.product p.start p.end net q
 abbrev pub run_in : Pulse → Network → List Wire
 run_in p net = spec.pulse (kind_is p.kind) p.product p.start p.end net
 
-abbrev pub witness_of : Witness → Network → List Wire
-witness_of (Run p) net = run_in p net
-witness_of Nothing net = []
+-- The wires of a run, or none where there is none.
+abbrev pub witness_of : Option Pulse → Network → List Wire
+witness_of (Some p) net = run_in p net
+witness_of None net = []
 
 -- The run is that of transition k, with the kind that the planes say, for product j.
 pub record PulseOf (w ts : List ℕ) (j k : ℕ) (p : Pulse) : Type 0 where

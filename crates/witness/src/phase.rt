@@ -1,5 +1,5 @@
 // In which of three phases a wire moves.
-ghost use Rattle.std.specs.Prelude.{◌≡◌, cond, ◌<◌, eqb};
+ghost use Rattle.std.specs.Prelude.{◌≡◌, ◌<◌, eqb};
 ghost use Rattle.hazard.specs.Cube.{bit};
 ghost use Rattle.hazard.specs.Pulse.{phase};
 ghost use Rattle.kinds.specs.Codes.{kind_is};
@@ -9,21 +9,20 @@ use crate::pulse::Pulse;
 use cube::point::bit_of;
 use kinds::kind::Kind;
 
-fn either(b: bool, x: u8, y: u8) -> u8
-    ensures { result ≡ cond b x y }
-{
-    if b { x } else { y }
-}
-
 // The phase, by the kind of the transition, by whether the wire's product is the named one, and by whether its literal has B's value.
 fn phase_of(kind: Kind, named: bool, late: bool) -> u8
     ensures { result ≡ phase (kind_is kind) named late }
 {
-    match kind {
-        Kind::Low => 0,
-        Kind::Rise => either(named, either(late, 0, 1), 2),
-        Kind::Fall => either(named, either(late, 1, 2), 0),
-        Kind::High => either(late, 1, 0),
+    match (kind, named, late) {
+        (Kind::Low, _, _) => 0,
+        (Kind::Rise, true, false) => 1,
+        (Kind::Rise, true, true) => 0,
+        (Kind::Rise, false, _) => 2,
+        (Kind::Fall, true, false) => 2,
+        (Kind::Fall, true, true) => 1,
+        (Kind::Fall, false, _) => 0,
+        (Kind::High, _, false) => 0,
+        (Kind::High, _, true) => 1,
     }
 }
 
@@ -33,12 +32,5 @@ pub fn moves_in(p: Pulse, q: u8, m: u16, i: usize, d: u8) -> bool
     ensures { result ≡ moves (kind_is p.kind) (eqb m p.product) q d (bit p.start i) (bit p.end i) }
 {
     let last = bit_of(p.end, i);
-    if d == 2 {
-        return false;
-    }
-    if bit_of(p.start, i) == last {
-        return false;
-    }
-    let kind = p.kind;
-    phase_of(kind, m == p.product, d as u16 == last) == q
+    d != 2 && bit_of(p.start, i) != last && phase_of(p.kind, m == p.product, d as u16 == last) == q
 }

@@ -7,12 +7,13 @@ ghost use Rattle.hazard.specs.Pulse.{run_for};
 ghost use Rattle.context.specs.Places.{words};
 ghost use Rattle.context.specs.Context.{table_in};
 ghost use Rattle.kinds.specs.Ready.{Ready};
-ghost use Rattle.conditions.specs.Answer.{verdict_of};
+ghost use Rattle.conditions.specs.Answer.{judged_of};
 ghost use Rattle.witness.specs.Shows.{witness_of, PulseOf, Ends, Listed};
 
 use conditions::fault::Verdict;
 use kinds::kind::{Kind, kind_of};
 use kinds::transition::{end_of, start_of};
+use refusal::refusal::Refusal;
 
 // A run to be written: of a transition of this kind, from start to end, for a fault of this product.
 #[derive(Clone, Copy)]
@@ -21,13 +22,6 @@ pub struct Pulse {
     pub product: u16,
     pub start: u16,
     pub end: u16,
-}
-
-// A run, or none.
-#[derive(Clone, Copy)]
-pub enum Witness {
-    Run(Pulse),
-    Nothing,
 }
 
 // The run of transition k, for product j.
@@ -46,33 +40,34 @@ fn pulse_at(context: &[u64], transitions: &[u16], j: u16, k: usize) -> Pulse
 }
 
 // For an uncovered cube of transition k, if that is one from 1 to 1. A number past the last transition stands for a single point.
-fn for_cube(context: &[u64], transitions: &[u16], k: usize) -> Witness
+fn for_cube(context: &[u64], transitions: &[u16], k: usize) -> Option<Pulse>
     requires { (length context.now ≡ words) × Ends transitions.now }
     ensures { (n : ℕ) → Ready n context.now transitions.now → (x : ℕ) (net : Network) → witness_of result net ≡ run_for (table_in n context.now) transitions.now net (spec.uncovered k x) }
 {
     if transitions.len() / 2 <= k {
-        return Witness::Nothing;
+        return None;
     }
     let p = pulse_at(context, transitions, 0, k);
-    let kind = p.kind;
-    match kind {
-        Kind::Low => Witness::Nothing,
-        Kind::Rise => Witness::Nothing,
-        Kind::Fall => Witness::Nothing,
-        Kind::High => Witness::Run(p),
-    }
+    let Kind::High = p.kind else {
+        return None;
+    };
+    Some(p)
 }
 
 // The run that shows a verdict, if one does.
-pub fn witness_for(context: &[u64], transitions: &[u16], v: Verdict) -> Witness
-    requires { (length context.now ≡ words) × Ends transitions.now × Listed transitions.now (verdict_of v) }
-    ensures { (n : ℕ) → Ready n context.now transitions.now → (net : Network) → witness_of result net ≡ run_for (table_in n context.now) transitions.now net (verdict_of v) }
+pub fn witness_for(
+    context: &[u64],
+    transitions: &[u16],
+    v: Result<Verdict, Refusal>,
+) -> Option<Pulse>
+    requires { (length context.now ≡ words) × Ends transitions.now × Listed transitions.now (judged_of v) }
+    ensures { (n : ℕ) → Ready n context.now transitions.now → (net : Network) → witness_of result net ≡ run_for (table_in n context.now) transitions.now net (judged_of v) }
 {
     match v {
-        Verdict::Refused(_) => Witness::Nothing,
-        Verdict::Passed => Witness::Nothing,
-        Verdict::HoldsZero(_, _) => Witness::Nothing,
-        Verdict::Intersects(j, k) => Witness::Run(pulse_at(context, transitions, j, k as usize)),
-        Verdict::Uncovered(k, _) => for_cube(context, transitions, k as usize),
+        Err(_) => None,
+        Ok(Verdict::Passed) => None,
+        Ok(Verdict::HoldsZero(_, _)) => None,
+        Ok(Verdict::Intersects(j, k)) => Some(pulse_at(context, transitions, j, k as usize)),
+        Ok(Verdict::Uncovered(k, _)) => for_cube(context, transitions, k as usize),
     }
 }

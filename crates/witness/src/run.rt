@@ -4,13 +4,14 @@ ghost use Rattle.hazard.specs.Verdict.{products};
 ghost use Rattle.hazard.specs.Pulse.{run_for};
 ghost use Rattle.context.specs.Context.{table_in};
 ghost use Rattle.kinds.specs.Ready.{Ready};
-ghost use Rattle.conditions.specs.Answer.{verdict_of};
+ghost use Rattle.conditions.specs.Answer.{judged_of};
 ghost use Rattle.network_bytes.specs.Network.{Sound};
 ghost use Rattle.witness.specs.Shows.{run_in, Listed, Written};
 
-use crate::pulse::{Pulse, Witness, witness_for};
+use crate::pulse::{Pulse, witness_for};
 use crate::write::write_phase;
 use conditions::fault::Verdict;
+use refusal::refusal::Refusal;
 
 // The run, phase after phase; how many wires.
 fn write_run(p: Pulse, n: usize, network: &[u8], wires: &mut [u16]) -> usize
@@ -28,15 +29,15 @@ pub fn show(
     context: &[u64],
     transitions: &[u16],
     network: &[u8],
-    v: Verdict,
+    v: Result<Verdict, Refusal>,
     wires: &mut [u16],
 ) -> usize
-    requires ready { Ready n context.now transitions.now × Listed transitions.now (verdict_of v) }
-    requires sound { Sound n network.now × (2 * length (run_for (table_in n context.now) transitions.now (products n network.now) (verdict_of v)) ≤ length wires.old) }
-    ensures { Written (run_for (table_in n context.now) transitions.now (products n network.now) (verdict_of v)) wires.old wires.new result }
+    requires ready { Ready n context.now transitions.now × Listed transitions.now (judged_of v) }
+    requires sound { Sound n network.now × (2 * length (run_for (table_in n context.now) transitions.now (products n network.now) (judged_of v)) ≤ length wires.old) }
+    ensures { Written (run_for (table_in n context.now) transitions.now (products n network.now) (judged_of v)) wires.old wires.new result }
 {
     match witness_for(context, transitions, v) {
-        Witness::Run(p) => write_run(p, n, network, wires),
-        Witness::Nothing => 0,
+        Some(p) => write_run(p, n, network, wires),
+        None => 0,
     }
 }

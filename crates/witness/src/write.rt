@@ -30,10 +30,8 @@ fn write_product(p: Pulse, q: u8, m: u16, digits: &[u8], wires: &mut [u16], from
     ensures { Wrote wires.old from (numbers (in_phase_of (kind_is p.kind) p.product p.start p.end q m digits.now)) wires.new result }
 {
     let mut at = from;
-    let mut i = 0;
-    while i < digits.len() {
-        at = write_wire(moves_in(p, q, m, i, digits[i]), m, i as u16, wires, at);
-        i += 1;
+    for (i, d) in digits.iter().enumerate() {
+        at = write_wire(moves_in(p, q, m, i, *d), m, i as u16, wires, at);
     }
     at
 }
@@ -50,14 +48,9 @@ pub fn write_phase(
     requires { Sound n network.now × (from + length (numbers (phase_in p (products n network.now) q)) ≤ length wires.old) }
     ensures { Wrote wires.old from (numbers (phase_in p (products n network.now) q)) wires.new result }
 {
-    let count = network.len() / n;
     let mut at = from;
-    let mut place = 0;
-    let mut m = 0;
-    while m < count {
-        at = write_product(p, q, m as u16, &network[place..place + n], wires, at);
-        place += n;
-        m += 1;
+    for (m, digits) in network.chunks_exact(n).enumerate() {
+        at = write_product(p, q, m as u16, digits, wires, at);
     }
     at
 }

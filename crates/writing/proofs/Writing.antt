@@ -1,13 +1,15 @@
 -- Bytes written one after another, and the loop that copies a list.
 use mathlib.Core.Path.{◌≡◌, refl, sym, ap, ◌∙◌}
-use mathlib.Core.List.{List, [], ◌∷◌, ◌++◌}
+use mathlib.Core.List.{List, [], ◌∷◌, ◌++◌, map, append_assoc, map-append}
 use Prim.Native.Nat.{ℕ, suc, ◌+◌, ◌≤◌, ◌<◌}
-use native.Mathlib.Nat.{add-zero, add_assoc, add-suc, suc-add}
+use native.Mathlib.Nat.{add-zero, add_assoc, add_comm, add-suc, suc-add}
 use native.Mathlib.Numerals.{add-one}
 use native.Mathlib.Omega.{arith}
-use lib.ListN.{length, get_or, set, take, length-append}
-use lib.Seq.{sets, length-sets, take-suc, take-length}
+use lib.ListN.{length, get_or, set, take, drop, length-append}
+use lib.Seq.{sets, sets-eq, length-sets, take-suc, take-length, drop-drop}
+use borrow.Rule.Slice.PartMut.{put_mid}
 use Rattle.problem_text.specs.Decimal.{decimal}
+use Rattle.problem_text.specs.Form.{newline, cell}
 use Rattle.writing.specs.Output.{field}
 use Rattle.writing.specs.Wrote.{Wrote}
 use Rattle.problem_text.proofs.Decimal.{spelled-length}
@@ -46,30 +48,27 @@ number_next x p = wrote_next p 5 (spelled-length 5 x)
 pub field_next : {before after : List ℕ} {at next : ℕ} (x : ℕ) → Wrote before at (field x) after next → next ≤ at + 6
 field_next x p = wrote_next p 6 (omega (arith, spelled-length 5 x))
 
--- The first i bytes are written.
-pub record Writing (bytes before : List ℕ) (at : ℕ) (out : List ℕ) (i : ℕ) : Type 0 where
-  pub low : i ≤ length bytes
-  pub wrote : Wrote before at (take i bytes) out (at + i)
-  pub long : length out ≡ length before
-
-pub writing_start : (bytes before : List ℕ) (at : ℕ) → Writing bytes before at before 0
-writing_start bytes before at = record { low = omega arith; wrote = rw add-zero (wrote_none before at); long = refl }
-
-pub writing_step :
-    {bytes before out : List ℕ} {at i : ℕ} → Writing bytes before at out i → i < length bytes → (d : ℕ) {v : ℕ} → get_or bytes i d ≡ v
-    → Writing bytes before at (set out (at + i) v) (i + 1)
-writing_step {bytes} {before} {out} {at} {i} s h d {v} e =
-    let grown : take (i + 1) bytes ≡ take i bytes ++ (v ∷ []) = rw (add-one, take-suc bytes i d h, e) in
-    let w : Wrote before at (take i bytes ++ (v ∷ [])) (set out (at + i) v) (at + i + 1) = wrote_then s.wrote (wrote_byte out (at + i) v) in
+-- The bytes in the place of as many of the buffer.
+pub wrote_part : (before bytes : List ℕ) {ys : List ℕ} (at k : ℕ) → at + length bytes ≤ length before → k ≡ length bytes → ys ≡ bytes → Wrote before at bytes (put_mid at k before ys) (at + length bytes)
+wrote_part before bytes {ys} at k h e i =
     record {
-      low = omega arith;
-      wrote = rw (grown, ← add_assoc) w;
-      long = wrote_long w;
+      is = rw (e, i) (ap (λ (l : List ℕ). take at before ++ (bytes ++ l)) (drop-drop (length bytes) at before ∙ rw add_comm) ∙ sym (append_assoc (take at before) bytes (drop (at + length bytes) before)) ∙ sym (sets-eq bytes before at h));
+      place = refl;
     }
 
-pub writing_end : {bytes before out : List ℕ} {at i : ℕ} → Writing bytes before at out i → length bytes ≤ i → Wrote before at bytes out (at + i)
-writing_end {bytes} {before} {out} {at} {i} s h =
-    let e : i ≡ length bytes = omega (arith, s.low) in
-    let w : Wrote before at (take i bytes) out (at + i) = s.wrote in
-    let whole : take i bytes ≡ bytes = rw e (take-length bytes) in
-    rw whole at w
+-- The characters of one digit more.
+pub wrote_cell :
+    {before out : List ℕ} {at i v : ℕ} (product : List ℕ) → Wrote before at (map cell (take i product)) out (at + i) → i < length product → v ≡ cell (get_or product i 0)
+    → Wrote before at (map cell (take (i + 1) product)) (set out (at + i) v) (at + (i + 1))
+wrote_cell {before} {out} {at} {i} {v} product w h e =
+    let grown : map cell (take (i + 1) product) ≡ map cell (take i product) ++ (v ∷ []) = rw (add-one, take-suc product i 0 h, e) (map-append cell (take i product) (get_or product i 0 ∷ [])) in
+    rw (grown, ← add_assoc) (wrote_then w (wrote_byte out (at + i) v))
+
+-- All of its characters, and the end of its line.
+pub wrote_line :
+    {before out : List ℕ} {at i : ℕ} (product : List ℕ) → Wrote before at (map cell (take i product)) out (at + i) → i ≡ length product
+    → Wrote before at (map cell product ++ (newline ∷ [])) (set out (at + length product) newline) (at + length product + 1)
+wrote_line {before} {out} {at} {i} product w e =
+    let whole : take i product ≡ product = rw e (take-length product) in
+    let v : Wrote before at (map cell product) out (at + length product) = rw (whole, e) at w in
+    wrote_then v (wrote_byte out (at + length product) newline)

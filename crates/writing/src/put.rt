@@ -11,12 +11,9 @@ pub fn put_bytes(bytes: &[u8], out: &mut [u8], at: usize) -> usize
     requires { at + length bytes.now ≤ length out.old }
     ensures { Wrote out.old at bytes.now out.new result }
 {
-    let mut i = 0;
-    while i < bytes.len() {
-        out[at + i] = bytes[i];
-        i += 1;
-    }
-    at + i
+    let end = at + bytes.len();
+    out[at..end].copy_from_slice(bytes);
+    end
 }
 
 // A number of at most k digits: all but the last, then the last.
@@ -24,7 +21,7 @@ fn put_digits(k: usize, x: u16, out: &mut [u8], at: usize) -> usize
     requires { (0 < k) × (x < 10 ^ k) × (at + k ≤ length out.old) }
     ensures { Wrote out.old at (spelled k x) out.new result }
 {
-    let last = 48 + (x % 10) as u8;
+    let last = b'0' + (x % 10) as u8;
     if x < 10 {
         out[at] = last;
         return at + 1;
@@ -46,20 +43,18 @@ pub fn put_field(x: u16, out: &mut [u8], at: usize) -> usize
     requires { at + 6 ≤ length out.old }
     ensures { Wrote out.old at (field x) out.new result × (result ≤ at + 6) }
 {
-    out[at] = 32;
+    out[at] = b' ';
     put_number(x, out, at + 1)
 }
 
 fn cell_of(d: u8) -> u8
     ensures { result ≡ cell d }
 {
-    if d == 0 {
-        return 48;
+    match d {
+        0 => b'0',
+        1 => b'1',
+        _ => b'-',
     }
-    if d == 1 {
-        return 49;
-    }
-    45
 }
 
 // A product, a character for each input, and the end of its line.
@@ -67,13 +62,12 @@ fn put_product(product: &[u8], out: &mut [u8], at: usize) -> usize
     requires { at + length product.now < length out.old }
     ensures { Wrote out.old at (map cell product.now ++ (newline ∷ [])) out.new result }
 {
-    let mut i = 0;
-    while i < product.len() {
-        out[at + i] = cell_of(product[i]);
-        i += 1;
+    for (i, d) in product.iter().enumerate() {
+        out[at + i] = cell_of(*d);
     }
-    out[at + i] = 10;
-    at + i + 1
+    let end = at + product.len();
+    out[end] = b'\n';
+    end + 1
 }
 
 // The products whose bytes stand one after another, a line each.
@@ -82,12 +76,9 @@ pub fn put_products(n: usize, count: usize, products: &[u8], out: &mut [u8], at:
     ensures { Wrote out.old at (product_lines (cut n count products.now)) out.new result }
 {
     let mut next = at;
-    let mut from = 0;
-    let mut j = 0;
-    while j < count {
-        next = put_product(&products[from..from + n], out, next);
-        from += n;
-        j += 1;
+    // Not `chunks_exact`: with no inputs a product is an empty line, and a chunk has to have a length.
+    for j in 0..count {
+        next = put_product(&products[j * n..(j + 1) * n], out, next);
     }
     next
 }

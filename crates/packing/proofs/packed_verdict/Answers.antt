@@ -1,27 +1,40 @@
-use mathlib.Core.Path.{sym, ap, subst, ◌∙◌}
-use Prim.Native.Nat.{◌<◌}
-use borrow.Author.Rules.{rules}
+use mathlib.Core.Path.{◌≡◌, sym, ap, ◌∙◌}
+use Rattle.hazard.specs.Refusal as spec
+use Rattle.hazard.specs.Verdict as verdict
 use Rattle.hazard.specs.Verdict.{fields_of}
-use Rattle.conditions.specs.Answer.{verdict_of}
+use Rattle.conditions.specs.Answer.{judged_of}
+use Rattle.std.specs.Prelude.{Result}
+use Rattle.conditions.specs.declared.fault.Verdict.TheVariants.{Passed, HoldsZero, Intersects, Uncovered}
+use Rattle.refusal.specs.declared.refusal.Refusal.{Refusal}
 use Rattle.conditions.specs.declared.fault.Verdict.{Verdict}
 use Rattle.packing.proofs.packed_verdict.Goals as goal
 
-pub overflow_cast-r : goal.overflow_cast-r
-overflow_cast-r c =
-    let h : c.in-Refused.r.number < 256 = subst (λ (v : Verdict). (fields_of (verdict_of v)).refusal < 256) c.in-Refused.is c.requires in
-    search rules
+pub returns-in-Err : goal.returns-in-Err
+returns-in-Err c =
+    c.packed.ensures
+    ∙ ap (λ (q : spec.Refusal). fields_of (verdict.refused q)) c.fields-told.ensures
+    ∙ sym (ap (λ (v : Result Verdict Refusal). fields_of (judged_of v)) c.in-Err.is)
 
-pub returns-in-Refused : goal.returns-in-Refused
-returns-in-Refused c = c.packed.ensures ∙ sym (ap (λ (v : Verdict). fields_of (verdict_of v)) c.in-Refused.is)
+pub returns-in-Ok-Passed : goal.returns-in-Ok-Passed
+returns-in-Ok-Passed c =
+    let d = c.in-Ok-Passed in
+    let e : d.field-0 ≡ Passed = rw d.is at d.field-0-is in
+    rw (d.is, e) c.packed-in-Ok-Passed.ensures
 
-pub returns-in-Passed : goal.returns-in-Passed
-returns-in-Passed c = c.packed-in-Passed.ensures ∙ sym (ap (λ (v : Verdict). fields_of (verdict_of v)) c.in-Passed.is)
+pub returns-in-Ok-HoldsZero : goal.returns-in-Ok-HoldsZero
+returns-in-Ok-HoldsZero c =
+    let d = c.in-Ok-HoldsZero in
+    let e : d.field-0 ≡ HoldsZero d.product d.point = rw d.is at d.field-0-is in
+    rw (d.is, e) c.packed-in-Ok-HoldsZero.ensures
 
-pub returns-in-HoldsZero : goal.returns-in-HoldsZero
-returns-in-HoldsZero c = c.packed-in-HoldsZero.ensures ∙ sym (ap (λ (v : Verdict). fields_of (verdict_of v)) c.in-HoldsZero.is)
+pub returns-in-Ok-Intersects : goal.returns-in-Ok-Intersects
+returns-in-Ok-Intersects c =
+    let d = c.in-Ok-Intersects in
+    let e : d.field-0 ≡ Intersects d.product d.transition = rw d.is at d.field-0-is in
+    rw (d.is, e) c.packed-in-Ok-Intersects.ensures
 
-pub returns-in-Intersects : goal.returns-in-Intersects
-returns-in-Intersects c = c.packed-in-Intersects.ensures ∙ sym (ap (λ (v : Verdict). fields_of (verdict_of v)) c.in-Intersects.is)
-
-pub returns-in-Uncovered : goal.returns-in-Uncovered
-returns-in-Uncovered c = c.packed-in-Uncovered.ensures ∙ sym (ap (λ (v : Verdict). fields_of (verdict_of v)) c.in-Uncovered.is)
+pub returns-in-Ok-Uncovered : goal.returns-in-Ok-Uncovered
+returns-in-Ok-Uncovered c =
+    let d = c.in-Ok-Uncovered in
+    let e : d.field-0 ≡ Uncovered d.transition d.label = rw d.is at d.field-0-is in
+    rw (d.is, e) c.packed-in-Ok-Uncovered.ensures

@@ -10,14 +10,14 @@ use Rattle.blocks.proofs.fill.block_into.Goals as goal
 use Rattle.blocks.proofs.fill.block_into.Goals.{After-allowed_at-allowed}
 
 pub loop-i-init : goal.loop-i-init
-loop-i-init c = (omega arith, block_start _ _ _ _)
+loop-i-init c = block_start _ _ _ _
 
 -- The word of a digit has its place in the columns.
 low : (c : After-allowed_at-allowed) (d : ℕ) {at : ℕ} → d < 3 → at ≡ run_of c.stride-words.result c.loop-i.i d
     → at + c.args.b < length c.loop-i.columns
 low c d few e =
     let l = c.loop-i in
-    omega (arith, run_room c.args.columns.now l.i d (suc c.args.b) c.stride-words.ensures e (omega (arith, c.loop-i-test.true, c.requires.1)) few c.requires.2, l.invariant.1.long)
+    omega (arith, run_room c.args.columns.now l.i d (suc c.args.b) c.stride-words.ensures e (omega (arith, c.requires.1)) few c.requires.2, l.invariant.long)
 
 pub overflow_add-columns : goal.overflow_add-columns
 overflow_add-columns c = search (rules, low (goal.at.overflow_add-columns c).After-allowed_at-allowed 0 (omega arith) c.run_of.ensures)
@@ -49,13 +49,13 @@ bounds-columns-run_of-in-loop-i-2 c = simp length-set (low (goal.at.bounds-colum
 pub loop-i-preserved : goal.loop-i-preserved
 loop-i-preserved c =
     let w = c.allowed_at-allowed in
-    (omega arith, rw (c.run_of.ensures, c.run_of-in-loop-i.ensures, c.run_of-in-loop-i-2.ensures, c.stride-words.ensures) (block_step c.loop-i.invariant.1 w.result c.requires.2 (omega (arith, c.requires.1)) w.ensures))
+    rw (c.run_of.ensures, c.run_of-in-loop-i.ensures, c.run_of-in-loop-i-2.ensures, c.stride-words.ensures) (block_step c.loop-i.invariant w.result c.requires.2 (omega (arith, c.requires.1)) w.ensures)
 
 pub shape_of-columns : goal.shape_of-columns
-shape_of-columns c = c.loop-i.invariant.1.long
+shape_of-columns c = c.loop-i.invariant.long
 
 pub returns : goal.returns
 returns c =
     let l = c.loop-i in
     let e : l.i ≡ c.args.n = omega arith in
-    rw e at l.invariant.1
+    rw e at l.invariant

@@ -1,9 +1,5 @@
-use Prim.Native.Nat.{◌-◌, ◌≤◌}
 use Rattle.blocks.specs.Blocks.{BlockFilled}
 use Rattle.blocks.proofs.fill.block_into.Given as goal
 
 abbrev pub invariant-loop-i : goal.invariant-loop-i
-invariant-loop-i l = (l.i ≤ l.n) × BlockFilled l.rel l.i l.rows l.b l.initial.columns l.columns
-
-abbrev pub decreases-loop-i : goal.decreases-loop-i
-decreases-loop-i l = l.n - l.i
+invariant-loop-i l = BlockFilled l.rel l.i l.rows l.b l.initial.columns l.columns

@@ -1,12 +1,18 @@
 use mathlib.Core.Path.{◌≡◌}
-use Prim.Native.Nat.{◌≤◌, ◌-◌, ◌*◌}
-use lib.ListN.{length}
-use Rattle.blocks.specs.Blocks.{stride}
+use Prim.Native.Nat.{◌*◌}
+use lib.ListN.{length, drop}
+use Rattle.std.specs.Iterator.Adapters.{enumerate_source, enumerate_count}
+use Rattle.std.specs.Slice.Iter.{chunks_rest, chunks_size}
 use Rattle.blocks.proofs.Storing.{Filled}
 use Rattle.blocks.proofs.fill.blocks_into.Given as goal
 
 abbrev pub invariant-loop-b : goal.invariant-loop-b
-invariant-loop-b l = Filled l.rel l.n l.rows l.columns l.b × (length l.columns ≡ length l.initial.columns) × (l.b ≤ stride l.initial.columns)
-
-abbrev pub decreases-loop-b : goal.decreases-loop-b
-decreases-loop-b l = length l.rows - 64 * l.b
+invariant-loop-b l =
+    let b = enumerate_count l.b-iterator in
+    let blocks = enumerate_source l.b-iterator in
+    record {
+      size : chunks_size blocks ≡ 64;
+      rest : chunks_rest blocks ≡ drop (64 * b) l.rows;
+      long : length l.columns ≡ length l.initial.columns;
+      filled : Filled l.rel l.n l.rows l.columns b;
+    }

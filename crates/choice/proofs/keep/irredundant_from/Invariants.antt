@@ -5,6 +5,3 @@ use Rattle.choice.proofs.keep.irredundant_from.Given as goal
 
 abbrev pub invariant-loop-j : goal.invariant-loop-j
 invariant-loop-j l = Keeping l.n l.required l.initial.products l.products l.flags l.kept l.j × Lent (length l.required) l.flags l.uncovered l.taken
-
-abbrev pub decreases-loop-j : goal.decreases-loop-j
-decreases-loop-j l = l.j

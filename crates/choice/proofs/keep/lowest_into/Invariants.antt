@@ -3,6 +3,3 @@ use Rattle.choice.proofs.keep.lowest_into.Given as goal
 
 abbrev pub invariant-loop-i : goal.invariant-loop-i
 invariant-loop-i l = Lowering l.firsts l.initial.lowest l.lowest l.i
-
-abbrev pub decreases-loop-i : goal.decreases-loop-i
-decreases-loop-i l = l.i

@@ -1,17 +1,19 @@
-use mathlib.Core.Path.{ap, sym, ◌∙◌}
-use native.Mathlib.Omega.{arith}
-use Rattle.hazard.specs.Search.{found}
-use Rattle.cube.proofs.Scan.{scan_start, scan_hit, scan_miss, scan_end}
+use mathlib.Core.Path.{◌∙◌, refl}
+use Prim.Native.Nat.{ℕ}
+use mathlib.Core.Bool.{Bool}
+use native.Mathlib.Nat.{sub-zero}
+use lib.ListN.{length}
+use borrow.Author.Rules.{rules}
+use borrow.Author.Tests.{tests}
+use Rattle.std.proofs.lemmas.Iterator.{YieldsList-from_range}
+use Rattle.std.proofs.lemmas.Iterator.Search.{any_from_yields_List}
+use Rattle.cube.proofs.Scan.{any_numbers}
+use Rattle.choice.specs.Keep.{needed_in}
 use Rattle.choice.proofs.keep.needed_by_any.Goals as goal
 
-pub loop-i-init : goal.loop-i-init
-loop-i-init c = scan_start _ _
-
-pub returns-then-needed_at : goal.returns-then-needed_at
-returns-then-needed_at c = ap found (scan_hit c.loop-i.invariant (omega arith) (sym c.needed_at.ensures ∙ c.if-needed_at.true))
-
-pub loop-i-preserved : goal.loop-i-preserved
-loop-i-preserved c = scan_miss c.loop-i.invariant (omega arith) (sym c.needed_at.ensures ∙ c.if-needed_at.false)
-
 pub returns : goal.returns
-returns c = ap found (scan_end c.loop-i.invariant (omega arith))
+returns c =
+    let a = c.args in
+    let test : ℕ → Bool = needed_in a.firsts.now a.flags.now a.j in
+    any_from_yields_List test _ _ _ c.any.ensures.ran (YieldsList-from_range 0 (length a.firsts.now) _ refl (sub-zero _)) (λ x b q k. search (rules, tests))
+    ∙ any_numbers test 0 (length a.firsts.now)

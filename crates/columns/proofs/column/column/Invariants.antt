@@ -3,6 +3,3 @@ use Rattle.columns.proofs.column.column.Given as goal
 
 abbrev pub invariant-loop-k : goal.invariant-loop-k
 invariant-loop-k l = Read l.b l.words l.k l.r
-
-abbrev pub decreases-loop-k : goal.decreases-loop-k
-decreases-loop-k l = l.k

@@ -1,3 +1,4 @@
+use borrow.Author.Rules.{rules}
 use Rattle.conditions.proofs.Covering.{covers-is}
 use Rattle.cube.specs.Mask.{cube_of}
 use Rattle.cube.specs.Entry.{cube_in}
@@ -12,4 +13,4 @@ returns c =
     let m = c.narrow in
     let e : cube_of c.args.n k.result ≡ cube_in c.args.n c.args.r = rw (k.ensures.0, k.ensures.1) in
     c.has_row.ensures ∙ covers-is c.args.n c.args.products.now c.args.columns.now w.new.out m.new.rows k.result c.args.r c.requires.containing e m.auto.rows
-    (omega (arith, c.requires.fits.2, w.auto.out)) (λ x l. w.ensures x (omega (arith, w.auto.out))) m.ensures (λ b. (c.slice_known-3-1.given b).fits)
+    (omega (arith, c.requires.fits.2, w.auto.out)) (λ x l. w.ensures x (omega (arith, w.auto.out))) m.ensures (λ b. search rules)

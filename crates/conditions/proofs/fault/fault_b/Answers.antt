@@ -7,28 +7,28 @@ use Rattle.cube.specs.Entry.{required_in, network_in}
 use Rattle.cube.proofs.Left.{left-start, left_end, find_hit, find_miss}
 use Rattle.conditions.proofs.fault.fault_b.Goals as goal
 
-pub loop-k-init : goal.loop-k-init
-loop-k-init c = (refl, left-start)
+pub loop-w-init : goal.loop-w-init
+loop-w-init c = (refl, left-start)
 
 pub covers-requires : goal.covers-requires
 covers-requires c =
-    let e = c.loop-k.invariant.0 in
+    let e = c.loop-w.invariant.0 in
     record { fits = (c.requires.fits.0, omega (arith, c.requires.fits.1, e), omega (arith, c.requires.fits.2, e)); containing = c.requires.containing }
 
 pub returns-then-not-covers : goal.returns-then-not-covers
 returns-then-not-covers c =
     let a = c.args in
-    find_hit (λ (r : Required). not (covered (network_in a.n a.products.now) r.cube)) (required_in a.n) c.loop-k.invariant.1 (omega arith)
+    find_hit (λ (r : Required). not (covered (network_in a.n a.products.now) r.cube)) (required_in a.n) c.loop-w.invariant.1 (omega arith)
     (ap not (sym c.covers.ensures ∙ c.if-not-covers.true))
 
-pub loop-k-preserved : goal.loop-k-preserved
-loop-k-preserved c =
+pub loop-w-preserved : goal.loop-w-preserved
+loop-w-preserved c =
     let a = c.args in
-    let l = c.loop-k in (
+    let l = c.loop-w in (
       c.covers.auto.rows ∙ l.invariant.0,
       find_miss (λ (r : Required). not (covered (network_in a.n a.products.now) r.cube)) (required_in a.n) l.invariant.1 (omega arith)
           (ap not (sym c.covers.ensures ∙ c.if-not-covers.false)),
     )
 
 pub returns : goal.returns
-returns c = left_end c.loop-k.invariant.1 (omega arith)
+returns c = left_end c.loop-w.invariant.1 (omega arith)

@@ -1,14 +1,10 @@
 use mathlib.Core.Path.{◌≡◌}
 use mathlib.Core.List.{map}
-use Prim.Native.Nat.{◌-◌}
 use lib.ListN.{length}
 use Rattle.hazard.specs.Verdict.{fault_b}
 use Rattle.cube.specs.Entry.{required_in, network_in}
 use Rattle.cube.proofs.Left.{Left}
 use Rattle.conditions.proofs.fault.fault_b.Given as goal
 
-abbrev pub invariant-loop-k : goal.invariant-loop-k
-invariant-loop-k g = (length g.rows ≡ length g.initial.rows) × Left (λ l. fault_b (map (required_in g.n) l) (network_in g.n g.products)) g.required g.k
-
-abbrev pub decreases-loop-k : goal.decreases-loop-k
-decreases-loop-k l = length l.required - l.k
+abbrev pub invariant-loop-w : goal.invariant-loop-w
+invariant-loop-w g = (length g.rows ≡ length g.initial.rows) × Left (λ l. fault_b (map (required_in g.n) l) (network_in g.n g.products)) g.required g.w-index

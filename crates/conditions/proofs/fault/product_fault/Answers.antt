@@ -6,11 +6,9 @@ use Rattle.hazard.specs.Cover.{product_at}
 use Rattle.cube.specs.Mask.{cube_of, Stands}
 use Rattle.cube.specs.Entry.{cube_in, network_in}
 use Rattle.cube.proofs.Word.{stands_in}
-use Rattle.points.specs.Found.{found_of}
 use Rattle.points.proofs.Agree.{lowest_agrees}
 use Rattle.context.specs.Context.{off_in}
 use Rattle.conditions.specs.Look.{met_in}
-use Rattle.conditions.specs.Answer.{place_of}
 use Rattle.conditions.proofs.Judging.{judging_start, judging_hit, judging_miss, judging_end}
 use Rattle.conditions.proofs.Looks.{product_read}
 use Rattle.conditions.proofs.fault.product_fault.Goals as goal
@@ -32,17 +30,17 @@ walk_over-requires c = (c.requires.ready.0.inputs, (looked (goal.at.walk_over-re
 pub lowest_zero-requires : goal.lowest_zero-requires
 lowest_zero-requires c = (c.requires.ready.0.long, c.walk_over.ensures.fits)
 
-zero_is : (c : After-lowest_zero) → let a = c.args in cube_of a.n c.cube_in-c.result ≡ product_at (network_in a.n a.products.now) c.loop-j.j → found_of c.lowest_zero.result ≡ lowest_zero a.n (off_in a.context.now) (product_at (network_in a.n a.products.now) c.loop-j.j)
+zero_is : (c : After-lowest_zero) → let a = c.args in cube_of a.n c.cube_in-c.result ≡ product_at (network_in a.n a.products.now) c.loop-j.j → c.lowest_zero.result ≡ lowest_zero a.n (off_in a.context.now) (product_at (network_in a.n a.products.now) c.loop-j.j)
 zero_is c e =
     c.lowest_zero.ensures ∙ lowest_agrees c.walk_over.ensures c.requires.ready.0.inputs (λ x l. refl) ∙ ap (lowest_zero c.args.n (off_in c.args.context.now)) e
 
 pub overflow_cast-result : goal.overflow_cast-result
 overflow_cast-result c = omega (arith, c.requires.ready.1)
 
-pub returns-in-At : goal.returns-in-At
-returns-in-At c =
+pub returns-in-Some : goal.returns-in-Some
+returns-in-Some c =
     let a = c.args in
-    judging_hit c.loop-j.invariant (omega (arith, length-map a.products.now (cube_in a.n))) (sym (zero_is (goal.at.returns-in-At c).After-lowest_zero (look_is (goal.at.returns-in-At c).After-cube_in-c)) ∙ ap found_of c.in-At.is)
+    judging_hit c.loop-j.invariant (omega (arith, length-map a.products.now (cube_in a.n))) (sym (zero_is (goal.at.returns-in-Some c).After-lowest_zero (look_is (goal.at.returns-in-Some c).After-cube_in-c)) ∙ c.in-Some.is)
 
 pub overflow_cast-j : goal.overflow_cast-j
 overflow_cast-j c = omega (arith, c.requires.ready.1)
@@ -50,15 +48,15 @@ overflow_cast-j c = omega (arith, c.requires.ready.1)
 pub loop-j-preserved : goal.loop-j-preserved
 loop-j-preserved c =
     let a = c.args in
-    judging_miss c.loop-j.invariant (omega (arith, length-map a.products.now (cube_in a.n))) (sym (zero_is (goal.at.loop-j-preserved c).After-lowest_zero (look_is (goal.at.loop-j-preserved c).After-cube_in-c)) ∙ ap found_of c.in_default.is)
+    judging_miss c.loop-j.invariant (omega (arith, length-map a.products.now (cube_in a.n))) (sym (zero_is (goal.at.loop-j-preserved c).After-lowest_zero (look_is (goal.at.loop-j-preserved c).After-cube_in-c)) ∙ c.in_default.is)
     (ap (met_in a.n a.context.now) (look_is (goal.at.loop-j-preserved c).After-cube_in-c)) c.met_by-met.ensures
 
-pub returns-in-At-met : goal.returns-in-At-met
-returns-in-At-met c =
+pub returns-in-Some-met : goal.returns-in-Some-met
+returns-in-Some-met c =
     let a = c.args in
-    rw (ap place_of c.in-At-met.is) at (judging_end c.loop-j.invariant (omega (arith, length-map a.products.now (cube_in a.n))))
+    rw c.in-Some-met.is at (judging_end c.loop-j.invariant (omega (arith, length-map a.products.now (cube_in a.n))))
 
-pub returns-in-Nothing : goal.returns-in-Nothing
-returns-in-Nothing c =
+pub returns-in-None : goal.returns-in-None
+returns-in-None c =
     let a = c.args in
-    rw (ap place_of c.in-Nothing.is) at (judging_end c.loop-j.invariant (omega (arith, length-map a.products.now (cube_in a.n))))
+    rw c.in-None.is at (judging_end c.loop-j.invariant (omega (arith, length-map a.products.now (cube_in a.n))))

@@ -6,33 +6,21 @@ use Rattle.cube.proofs.Digits.{stands_none, stands_small, product_step}
 use Rattle.cube.proofs.bytes.product_at.Goals as goal
 
 pub loop-i-init : goal.loop-i-init
-loop-i-init c = let a = c.args in (omega arith, stands_none a.bytes.now a.at a.n)
-
-pub overflow_sub-i : goal.overflow_sub-i
-overflow_sub-i c = omega arith
-
-pub overflow_add-at : goal.overflow_add-at
-overflow_add-at c = omega arith
-
-pub bounds-bytes-at : goal.bounds-bytes-at
-bounds-bytes-at c = omega arith
+loop-i-init c = let a = c.args in stands_none a.bytes.now a.at a.n
 
 pub prepended-c-requires : goal.prepended-c-requires
 prepended-c-requires c =
     let l = c.loop-i in
-    let q = stands_small l.invariant.1 (omega arith) in
+    let q = stands_small l.invariant (omega arith) in
     (q.0, q.1, c.requires.2 (l.i - 1) (omega arith))
-
-pub loop-i-smaller : goal.loop-i-smaller
-loop-i-smaller c = omega arith
 
 pub loop-i-preserved : goal.loop-i-preserved
 loop-i-preserved c =
     let l = c.loop-i in
-    (omega arith, product_step c.args.bytes.now c.args.at c.args.n l.i (omega arith) (omega arith) c.requires.1 (c.prepended-c.ensures _ _ l.invariant.1))
+    product_step c.args.bytes.now c.args.at c.args.n l.i (omega arith) (omega arith) c.requires.1 (c.prepended-c.ensures _ _ l.invariant)
 
 pub returns : goal.returns
 returns c =
     let l = c.loop-i in
     let e : l.i ≡ 0 = omega arith in
-    rw (e, sub-zero) at l.invariant.1
+    rw (e, sub-zero) at l.invariant

@@ -8,4 +8,4 @@ grow-requires c = record { ready = c.requires.ready; clean = (c.supercube_of.ens
 pub returns : goal.returns
 returns c =
     let g = c.grow.ensures in
-    kept (cube_of c.args.n c.args.c) g (c.supercube_of.ensures c.args.n c.requires.clean.small).is (c.grown_or.ensures c.args.n c.requires.clean g.clean)
+    kept (cube_of c.args.n c.args.c) g (c.supercube_of.ensures c.args.n c.requires.clean.small).is (c.cube_or.ensures c.args.n c.requires.clean g.clean)

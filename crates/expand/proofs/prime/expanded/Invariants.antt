@@ -1,4 +1,3 @@
-use Prim.Native.Nat.{◌-◌}
 use Rattle.hazard.specs.Expansion.{expand}
 use Rattle.cube.specs.Mask.{cube_of, Clean}
 use Rattle.context.specs.Context.{off_in, privileged_of}
@@ -7,6 +6,3 @@ use Rattle.expand.proofs.prime.expanded.Given as goal
 
 abbrev pub invariant-loop-i : goal.invariant-loop-i
 invariant-loop-i l = Clean l.n l.p × Raising l.n (off_in l.context) (privileged_of l.n l.context) (cube_of l.n l.p) l.i (expand l.n (off_in l.context) (privileged_of l.n l.context) (cube_of l.n l.initial.p))
-
-abbrev pub decreases-loop-i : goal.decreases-loop-i
-decreases-loop-i l = l.n - l.i

@@ -15,4 +15,4 @@ pub returns : goal.returns
 returns c =
     let g = c.grow.ensures in
     rw (literal_digit c.args.n c.args.c.care c.args.c.value c.args.i c.requires.clean.1 (λ e. c.if-bit_of-eq0.false (c.bit_of.ensures ∙ e)))
-    (kept (cube_of c.args.n c.args.c) g (c.raised.ensures c.args.n c.requires.clean.0.small).is (c.grown_or.ensures c.args.n c.requires.clean.0 g.clean))
+    (kept (cube_of c.args.n c.args.c) g (c.raised.ensures c.args.n c.requires.clean.0.small).is (c.cube_or.ensures c.args.n c.requires.clean.0 g.clean))

@@ -1,24 +1,28 @@
-use mathlib.Core.Path.{ap, ◌∙◌}
-use mathlib.Core.Option.{map}
-use native.Mathlib.Omega.{arith}
-use borrow.Author.Tests.{lt-ltb, le-ltb}
+use mathlib.Core.Path.{◌≡◌, sym, ap, ◌∙◌}
+use Rattle.std.specs.Prelude.{option_map}
+use Rattle.std.proofs.lemmas.Iterator.{YieldsList-from_slice}
+use Rattle.std.proofs.lemmas.Iterator.Search.{position_from_yields_List}
+use Rattle.std.proofs.lemmas.Iterator.Adapters.{position_from-zero}
+use Rattle.std.proofs.Common.{rules, tests}
+use native.Mathlib.Nat.{zero-add}
+use lib.Dec.{ltb}
+use lib.ListN.{length}
+use Rattle.hazard.specs.Search.{first}
 use Rattle.hazard.specs.Transition.{value}
 use Rattle.hazard.specs.Refusal.{refusal}
-use Rattle.cube.proofs.Scan.{scan_start, scan_hit, scan_miss, scan_end, get_d_any}
+use Rattle.cube.proofs.Positions.{position-first}
 use Rattle.form.proofs.table.check_bytes.Goals as goal
+use Rattle.form.proofs.table.check_bytes.Goals.{After-position}
 
-pub loop-x-init : goal.loop-x-init
-loop-x-init c = scan_start _ _
-
-pub returns-then-table-x-gt2 : goal.returns-then-table-x-gt2
-returns-then-table-x-gt2 c =
+-- The place that was found is the lowest point.
+lowest : (c : After-position) → c.position.result ≡ first (λ x. ltb 2 (value c.args.table.now x)) 0 (length c.args.table.now)
+lowest c =
     let f = c.args.table.now in
-    c.refused.ensures ∙ ap (map (λ x. refusal 3 0 x)) (scan_hit c.loop-x.invariant (omega arith) (lt-ltb 2 (value f c.loop-x.x) (omega (arith, get_d_any f c.loop-x.x 0 2 c.loop-x-test.true))))
+    position_from_yields_List (ltb 2) _ _ c.position.result c.position.ensures.ran (YieldsList-from_slice f cc) (λ x b q k. search (rules, tests))
+    ∙ position_from-zero (ltb 2) f ∙ position-first (ltb 2) (λ x. ltb 2 (value f x)) 2 f 0 (λ k l. rw zero-add)
 
-pub loop-x-preserved : goal.loop-x-preserved
-loop-x-preserved c =
-    let f = c.args.table.now in
-    scan_miss c.loop-x.invariant (omega arith) (le-ltb 2 (value f c.loop-x.x) (omega (arith, get_d_any f c.loop-x.x 0 2 c.loop-x-test.true)))
+pub returns-in-Some : goal.returns-in-Some
+returns-in-Some c = ap (option_map (λ x. refusal 3 0 x)) (sym c.in-Some.is ∙ lowest (goal.at.returns-in-Some c).After-position)
 
-pub returns : goal.returns
-returns c = ap (map (λ x. refusal 3 0 x)) (scan_end c.loop-x.invariant (omega arith))
+pub returns-in-None : goal.returns-in-None
+returns-in-None c = ap (option_map (λ x. refusal 3 0 x)) (sym c.in-None.is ∙ lowest (goal.at.returns-in-None c).After-position)

@@ -11,7 +11,7 @@ pub loop-i-init : goal.loop-i-init
 loop-i-init c =
     let h = ap length c.privileged-cubes.ensures in
     let t = c.whole_word-all.ensures in
-    (omega arith, narrowed_start _ _ h t, narrowed_start _ _ h t)
+    (narrowed_start _ _ h t, narrowed_start _ _ h t)
 
 -- The columns of the cubes that are met, and those of the start points, have one word in each run.
 long : (c : After-starts-starting) → (length c.meets-meeting.result.now ≡ 30) × (length c.starts-starting.result.now ≡ 30)
@@ -29,10 +29,10 @@ pub loop-i-preserved : goal.loop-i-preserved
 loop-i-preserved c =
     let e = c.digit_at.ensures.0 in
     let f = c.run_of-at.ensures in
-    (omega arith, column_step (long (goal.at.loop-i-preserved c).After-starts-starting).0 e f c.loop-i.invariant.1, column_step (long (goal.at.loop-i-preserved c).After-starts-starting).1 e f c.loop-i.invariant.2)
+    (column_step (long (goal.at.loop-i-preserved c).After-starts-starting).0 e f c.loop-i.invariant.0, column_step (long (goal.at.loop-i-preserved c).After-starts-starting).1 e f c.loop-i.invariant.1)
 
 pub returns : goal.returns
 returns c =
     let l = c.loop-i in
     let e : l.i ≡ c.args.n = omega arith in
-    illegal_are c.requires c.args.c (rw (e, c.meets-meeting.ensures) at l.invariant.1) (rw (e, c.starts-starting.ensures) at l.invariant.2)
+    illegal_are c.requires c.args.c (rw (e, c.meets-meeting.ensures) at l.invariant.0) (rw (e, c.starts-starting.ensures) at l.invariant.1)

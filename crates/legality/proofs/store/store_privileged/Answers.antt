@@ -2,8 +2,7 @@ use mathlib.Core.Path.{◌≡◌, ◌∙◌}
 use mathlib.Core.List.{List}
 use Prim.Native.Nat.{ℕ, ◌+◌, ◌-◌, ◌≤◌}
 use native.Mathlib.Omega.{arith}
-use lib.ListN.{length, take, drop}
-use lib.Seq.{take_all}
+use lib.ListN.{length}
 use Rattle.context.specs.Places.{privileged_at, meets_at, starts_at}
 use Rattle.context.proofs.Parts.{part_length}
 use Rattle.legality.proofs.Placing.{placed, placed_length}
@@ -17,7 +16,7 @@ cut k = omega arith
 
 -- The three parts, and their lengths.
 abbrev part : After-blocks_into-2 → List ℕ
-part c = c.copy_into.new.to
+part c = c.copy_from_slice.new.self
 
 abbrev first : After-blocks_into-2 → List ℕ
 first c = c.blocks_into.new.columns
@@ -30,7 +29,7 @@ sizes c =
     let w = c.args.context.now in
     let m = privileged_at + length c.args.privileged.now - privileged_at in
     let h : privileged_at + m ≤ length w = omega (arith, c.requires.1, c.requires.2) in
-    let p = c.copy_into.auto.to ∙ part_length privileged_at m w h in
+    let p = c.copy_from_slice.auto.self ∙ part_length privileged_at m w h in
     let one = placed_length privileged_at m (part c) w p h in
     let q = c.blocks_into.auto.columns ∙ part_length meets_at 30 (placed privileged_at m (part c) w) (omega (arith, one, c.requires.2)) in
     let two = placed_length meets_at 30 (first c) (placed privileged_at m (part c) w) q (omega (arith, one, c.requires.2)) in
@@ -38,11 +37,7 @@ sizes c =
 
 -- All of them are copied.
 copied : (c : After-blocks_into-2) → part c ≡ c.args.privileged.now
-copied c =
-    let w = c.args.context.now in
-    let m = privileged_at + length c.args.privileged.now - privileged_at in
-    let l = part_length privileged_at m w (omega (arith, c.requires.1, c.requires.2)) in
-    c.copy_into.ensures ∙ take_all (length (take m (drop privileged_at w))) c.args.privileged.now (omega (arith, l, cut (length c.args.privileged.now)))
+copied c = c.copy_from_slice.ensures.after
 
 pub shape_of-context : goal.shape_of-context
 shape_of-context c =

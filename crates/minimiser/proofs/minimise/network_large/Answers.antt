@@ -24,20 +24,20 @@ few c = ready-few c.requires.0
 room : (c : After-store_required-count) → c.store_required-count.result ≤ length c.store_required-count.new.out
 room c = omega (arith, c.store_required-count.ensures.size, c.store_required-count.ensures.long, few c)
 
-pub slice_bounds-network_many-end : goal.slice_bounds-network_many-end
-slice_bounds-network_many-end c = room (goal.at.slice_bounds-network_many-end c).After-store_required-count
+pub slice_bounds-network_sized-end : goal.slice_bounds-network_sized-end
+slice_bounds-network_sized-end c = room (goal.at.slice_bounds-network_sized-end c).After-store_required-count
 
 -- The part that is handed on holds them.
 all : (c : After-store_required-count) → let a = c.args in map (required_in a.n) (take (c.store_required-count.result - 0) c.store_required-count.new.out) ≡ sets.required a.n (table_in a.n a.context.now) a.transitions.now
 all c = ap (λ (k : ℕ). map (required_in c.args.n) (take k c.store_required-count.new.out)) (sub-zero c.store_required-count.result) ∙ held_all c.store_required-count.ensures (room c)
 
-pub network_many-requires : goal.network_many-requires
-network_many-requires c =
+pub network_sized-requires : goal.network_sized-requires
+network_sized-requires c =
     let q = c.store_required-count in
-    let e = part_few c.args.n q.new.out q.result (all (goal.at.network_many-requires c).After-store_required-count) in
-    record { ready = (c.requires.1, omega (arith, e, few (goal.at.network_many-requires c).After-store_required-count), rw e c.requires.2); clean = rw (sub-zero q.result) (taken-clean c.args.n q.result q.new.out q.ensures.clean) }
+    let e = part_few c.args.n q.new.out q.result (all (goal.at.network_sized-requires c).After-store_required-count) in
+    record { ready = (c.requires.1, omega (arith, e, few (goal.at.network_sized-requires c).After-store_required-count), rw e c.requires.2); sized = (omega arith, omega arith, omega arith); clean = rw (sub-zero q.result) (taken-clean c.args.n q.result q.new.out q.ensures.clean) }
 
 pub returns : goal.returns
 returns c =
     let a = c.args in
-    subst (λ (rs : List sets.Required). Answered a.n (off_in a.context.now) (privileged_of a.n a.context.now) rs a.cover.now c.network_many.new.cover (minimised_of c.network_many.result)) (all (goal.at.returns c).After-store_required-count) c.network_many.ensures
+    subst (λ (rs : List sets.Required). Answered a.n (off_in a.context.now) (privileged_of a.n a.context.now) rs a.cover.now c.network_sized.new.cover (minimised_of c.network_sized.result)) (all (goal.at.returns c).After-store_required-count) c.network_sized.ensures

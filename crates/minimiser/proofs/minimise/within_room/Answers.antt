@@ -1,4 +1,4 @@
-use mathlib.Core.Path.{subst}
+use mathlib.Core.Path.{refl, subst}
 use mathlib.Core.List.{List}
 use Prim.Native.Nat.{◌*◌, ◌≤◌, ◌<◌}
 use native.Mathlib.Nat.{sub-zero}
@@ -22,7 +22,7 @@ pub returns-then-cover-n : goal.returns-then-cover-n
 returns-then-cover-n c =
     let a = c.args in
     let l : length a.cover.now < a.n * a.count = omega arith in
-    room-declined a.n (table_in a.n a.context.now) a.transitions.now a.cover.now c.requires.0 a.count c.requires.1.count' c.refuse.ensures l
+    room-declined a.n (table_in a.n a.context.now) a.transitions.now a.cover.now c.requires.0 a.count c.requires.1.count' refl l
 
 pub network_large-requires : goal.network_large-requires
 network_large-requires c =
@@ -36,12 +36,12 @@ returns-then-few-count c =
     let l : a.n * a.count ≤ length a.cover.now = omega arith in
     promised a.n (table_in a.n a.context.now) a.transitions.now a.cover.now c.requires.0 a.count c.requires.1.count' l (problem_answered c.requires.1 c.network_large.ensures)
 
-pub network_few-requires : goal.network_few-requires
-network_few-requires c =
+pub network_sized-requires : goal.network_sized-requires
+network_sized-requires c =
     let a = c.args in
     let l : a.n * a.count ≤ length a.cover.now = omega arith in
     let e = part_few a.n a.few.now a.count (problem-few c.requires.1 (omega arith)) in
-    record { ready = (c.requires.1.legal, omega (arith, e, c.requires.1.count', c.requires.1.room), rw e (room_enough a.n (table_in a.n a.context.now) a.transitions.now a.cover.now c.requires.0 a.count c.requires.1.count' l)); clean = rw (sub-zero a.count) (taken-clean a.n a.count a.few.now c.requires.1.clean) }
+    record { ready = (c.requires.1.legal, omega (arith, e, c.requires.1.count', c.requires.1.room), rw e (room_enough a.n (table_in a.n a.context.now) a.transitions.now a.cover.now c.requires.0 a.count c.requires.1.count' l)); sized = (omega arith, omega arith, omega arith); clean = rw (sub-zero a.count) (taken-clean a.n a.count a.few.now c.requires.1.clean) }
 
 pub returns : goal.returns
 returns c =
@@ -49,4 +49,4 @@ returns c =
     let l : a.n * a.count ≤ length a.cover.now = omega arith in
     promised a.n (table_in a.n a.context.now) a.transitions.now a.cover.now c.requires.0 a.count c.requires.1.count' l
     (problem_answered c.requires.1
-    (subst (λ (rs : List sets.Required). Answered a.n (off_in a.context.now) (privileged_of a.n a.context.now) rs a.cover.now c.network_few.new.cover (minimised_of c.network_few.result)) (problem-few c.requires.1 (omega arith)) c.network_few.ensures))
+    (subst (λ (rs : List sets.Required). Answered a.n (off_in a.context.now) (privileged_of a.n a.context.now) rs a.cover.now c.network_sized.new.cover (minimised_of c.network_sized.result)) (problem-few c.requires.1 (omega arith)) c.network_sized.ensures))

@@ -1,15 +1,9 @@
-use mathlib.Core.Bool.{not}
 use Rattle.cube.specs.PointSet.{in_set}
 use Rattle.moves.specs.Further.{further_in}
-use Rattle.points.proofs.Masked.{word_none, mask_but}
+use Rattle.points.proofs.Masked.{mask_but}
 use Rattle.moves.proofs.turn.last_points.Goals as goal
-
-pub returns-then-common-eq0 : goal.returns-then-common-eq0
-returns-then-common-eq0 c =
-    let a = c.args in
-    word_none a.at.mask (in_set a.set.now) (λ x. not (further_in a.n (in_set a.set.now) a.s a.e x)) c.set_points-common.ensures c.if-common-eq0.true
 
 pub returns : goal.returns
 returns c =
     let a = c.args in
-    mask_but a.at.mask (in_set a.set.now) (further_in a.n (in_set a.set.now) a.s a.e) c.set_points-common.ensures c.further_word.ensures
+    mask_but a.at.mask (in_set a.set.now) (further_in a.n (in_set a.set.now) a.s a.e) c.set_points.ensures c.turning_points.ensures

@@ -1,15 +1,12 @@
-use native.Mathlib.Omega.{arith}
-use Rattle.network_bytes.proofs.Bytes.{digitwise_start, digitwise_hit, digitwise_miss, digitwise_end}
+use mathlib.Core.Path.{◌∙◌}
+use Rattle.std.proofs.lemmas.Iterator.{YieldsList-from_slice}
+use Rattle.std.proofs.lemmas.Iterator.Search.{any_from_yields_List}
+use Rattle.std.proofs.Common.{rules, tests}
+use lib.Dec.{ltb}
+use Rattle.network_bytes.proofs.Bytes.{any_bad}
 use Rattle.network_bytes.proofs.check.bad_product.Goals as goal
 
-pub loop-i-init : goal.loop-i-init
-loop-i-init c = digitwise_start _ _ _
-
-pub returns-then-bytes-at-gt2 : goal.returns-then-bytes-at-gt2
-returns-then-bytes-at-gt2 c = digitwise_hit c.loop-i.invariant (omega arith) c.requires.1 c.if-bytes-at-gt2.true
-
-pub loop-i-preserved : goal.loop-i-preserved
-loop-i-preserved c = digitwise_miss c.loop-i.invariant (omega arith) c.requires.1 (omega arith)
-
 pub returns : goal.returns
-returns c = digitwise_end c.loop-i.invariant (omega arith)
+returns c =
+    let l = c.args.product.now in
+    any_from_yields_List (ltb 2) _ _ c.any.result c.any.ensures.ran (YieldsList-from_slice l cc) (λ x b q k. search (rules, tests)) ∙ any_bad l

@@ -11,13 +11,7 @@ pub loop-j-init : goal.loop-j-init
 loop-j-init c = (reading_start _ _ _, refl)
 
 pub product_at-requires : goal.product_at-requires
-product_at-requires c =
-    let l = c.loop-j in
-    (c.requires.0.small, place-room c.args.n c.args.bytes.now l.invariant.0.place (omega arith), byte_le c.requires.0 l.invariant.0.place (omega arith))
-
-pub overflow_add-at : goal.overflow_add-at
-overflow_add-at c =
-    omega (arith, place-room c.args.n c.args.bytes.now c.loop-j.invariant.0.place (omega arith), c.well_formed)
+product_at-requires c = (c.requires.0.small, place-room c.args.n c.args.bytes.now {j = c.loop-j.j} refl (omega arith), byte_le c.requires.0 {j = c.loop-j.j} refl (omega arith))
 
 pub loop-j-preserved : goal.loop-j-preserved
 loop-j-preserved c =
@@ -28,4 +22,4 @@ loop-j-preserved c =
 pub returns : goal.returns
 returns c =
     let l = c.loop-j in
-    reading_end l.invariant.0 (omega (arith, l.invariant.0.low)) (omega (arith, l.invariant.1, l.invariant.0.low, c.requires.0.few))
+    reading_end l.invariant.0 (omega arith) (omega (arith, l.invariant.1, c.requires.0.few))

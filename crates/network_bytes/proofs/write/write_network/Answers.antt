@@ -11,10 +11,6 @@ write_product-requires c =
     let l = c.loop-j in
     (c.requires.0, omega (arith, writing_room l.invariant (omega arith) c.requires.2, l.invariant.long))
 
-pub overflow_add-at : goal.overflow_add-at
-overflow_add-at c =
-    omega (arith, writing_room c.loop-j.invariant (omega arith) c.requires.2, c.well_formed)
-
 pub loop-j-preserved : goal.loop-j-preserved
 loop-j-preserved c =
     let l = c.loop-j in

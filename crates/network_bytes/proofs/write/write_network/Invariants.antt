@@ -1,10 +1,5 @@
-use Prim.Native.Nat.{◌-◌}
-use lib.ListN.{length}
 use Rattle.network_bytes.proofs.Writing.{Writing}
 use Rattle.network_bytes.proofs.write.write_network.Given as goal
 
 abbrev pub invariant-loop-j : goal.invariant-loop-j
-invariant-loop-j l = Writing l.n l.products l.initial.cover l.cover l.at l.j
-
-abbrev pub decreases-loop-j : goal.decreases-loop-j
-decreases-loop-j l = length l.products - l.j
+invariant-loop-j l = Writing l.n l.products l.initial.cover l.cover l.j

@@ -1,10 +1,7 @@
-use Prim.Native.Nat.{◌-◌}
-use lib.ListN.{length}
-use Rattle.problem_text.proofs.Digits.{Digits}
+use Rattle.std.proofs.Common.{◌≡◌, drop}
+use Rattle.problem_text.specs.Read.{more, number}
 use Rattle.problem_text.proofs.number.number_at.Given as goal
 
+-- The digits up to a place make the number x.
 abbrev pub invariant-loop-i : goal.invariant-loop-i
-invariant-loop-i l = Digits l.text l.from l.x l.i
-
-abbrev pub decreases-loop-i : goal.decreases-loop-i
-decreases-loop-i l = length l.text - l.i
+invariant-loop-i l = number (drop l.from l.text) ≡ more l.x (drop l.i l.text)

@@ -1,10 +1,8 @@
-use Prim.Native.Nat.{◌-◌, ◌+◌}
-use lib.ListN.{length}
-use Rattle.problem_text.proofs.Cells.{Cells}
+use Rattle.std.proofs.Common.{◌≡◌, ◌+◌, take, drop}
+use Rattle.problem_text.specs.Read.{table_line}
+use Rattle.problem_text.proofs.Tables.{prefixed}
 use Rattle.problem_text.proofs.table.table_into.Given as goal
 
+-- The values up to a place stand in the room.
 abbrev pub invariant-loop-k : goal.invariant-loop-k
-invariant-loop-k l = Cells l.text l.from l.initial.table l.table l.k
-
-abbrev pub decreases-loop-k : goal.decreases-loop-k
-decreases-loop-k l = length l.text - (l.from + l.k)
+invariant-loop-k l = table_line (drop l.from l.text) ≡ prefixed (take l.k l.table) (table_line (drop (l.from + l.k) l.text))

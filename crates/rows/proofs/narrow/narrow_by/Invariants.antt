@@ -1,11 +1,8 @@
-use Prim.Native.Nat.{◌+◌, ◌-◌, ◌≤◌}
+use Prim.Native.Nat.{◌+◌}
 use lib.Bits.{bit_and}
-use lib.ListN.{length, get_or}
+use lib.ListN.{get_or}
 use Rattle.cube.proofs.Sweep.{Sweep}
 use Rattle.rows.proofs.narrow.narrow_by.Given as goal
 
 abbrev pub invariant-loop-b : goal.invariant-loop-b
-invariant-loop-b l = (l.b ≤ length l.initial.rows) × Sweep (λ k v. bit_and v (bit_and (get_or l.columns (l.at + k) 0) (get_or l.columns (l.also + k) 0))) 0 l.initial.rows l.rows l.b
-
-abbrev pub decreases-loop-b : goal.decreases-loop-b
-decreases-loop-b l = length l.initial.rows - l.b
+invariant-loop-b l = Sweep (λ k v. bit_and v (bit_and (get_or l.columns (l.at + k) 0) (get_or l.columns (l.also + k) 0))) 0 l.initial.rows l.rows l.b

@@ -1,10 +1,8 @@
-use Prim.Native.Nat.{◌-◌}
-use lib.ListN.{length}
-use Rattle.rows.proofs.Filling.{Filling}
+use mathlib.Core.Path.{◌≡◌}
+use Prim.Native.Nat.{ℕ, ◌*◌, ◌<◌}
+use lib.Dec.{ltb}
+use Rattle.cube.specs.PointSet.{in_set}
 use Rattle.rows.proofs.whole.whole_into.Given as goal
 
 abbrev pub invariant-loop-b : goal.invariant-loop-b
-invariant-loop-b l = Filling l.count l.initial.out l.out l.b
-
-abbrev pub decreases-loop-b : goal.decreases-loop-b
-decreases-loop-b l = length l.initial.out - l.b
+invariant-loop-b l = (k : ℕ) → k < 64 * l.b → in_set l.out k ≡ ltb k l.count

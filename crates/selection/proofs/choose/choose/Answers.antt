@@ -1,4 +1,5 @@
 use mathlib.Core.Path.{◌≡◌, refl, sym, ◌∙◌, subst}
+use Rattle.std.specs.Prelude.{Err}
 use native.Mathlib.Omega.{arith}
 use lib.Dec.{T}
 use lib.ListN.{length, get_or, length-set}
@@ -29,38 +30,36 @@ loop-i-init c =
     let w = c.whole_into in
     (turn-start c.args.n c.args.context.now (choosing_start _ _ _ _ _ c.requires.ready.1 c.requires.ready.2 c.requires.ready.3), refl, lent_start (length c.args.required.now) _ w.new.out c.requires.ready.1 refl refl w.auto.out w.ensures)
 
-pub bounds-flags-r : goal.bounds-flags-r
-bounds-flags-r c = omega (arith, c.loop-i.invariant.0.choosing.many, c.loop-i-test.true)
+pub bounds-flags-i : goal.bounds-flags-i
+bounds-flags-i c = omega (arith, c.loop-i.invariant.0.choosing.many, c.loop-i-test.true)
 
 pub slice_bounds-product_for-end : goal.slice_bounds-product_for-end
 slice_bounds-product_for-end c = lent_low c.loop-i.invariant.2
 
-pub product_for-made-requires : goal.product_for-made-requires
-product_for-made-requires c =
+pub product_for-requires : goal.product_for-requires
+product_for-requires c =
     let l = c.loop-i in
     let t = c.loop-i-test.true in
     record { ready = (c.requires.ready.0, omega (arith, t)); fits = (lent_fits l.invariant.2 c.args.columns.now c.requires.inside.1, omega (arith, lent_wide l.invariant.2, t)); clean = c.requires.clean }
 
-pub shape_of-firsts-in-Blocked : goal.shape_of-firsts-in-Blocked
-shape_of-firsts-in-Blocked c = c.loop-i.invariant.0.choosing.whole ∙ sym c.requires.ready.2
+pub shape_of-firsts-in_err-c : goal.shape_of-firsts-in_err-c
+shape_of-firsts-in_err-c c = c.loop-i.invariant.0.choosing.whole ∙ sym c.requires.ready.2
 
-pub shape_of-products-in-Blocked : goal.shape_of-products-in-Blocked
-shape_of-products-in-Blocked c = c.loop-i.invariant.1
+pub shape_of-products-in_err-c : goal.shape_of-products-in_err-c
+shape_of-products-in_err-c c = c.loop-i.invariant.1
 
-pub returns-in-Blocked : goal.returns-in-Blocked
-returns-in-Blocked c =
+pub returns-in_err-c : goal.returns-in_err-c
+returns-in_err-c c =
     let a = c.args in
     let l = c.loop-i in
-    turn_blocked a.n a.context.now l.invariant.0 c.loop-i-test.true (subst (MadeFor a.n (off_in a.context.now) (privileged_of a.n a.context.now) (get_or a.required.now l.i 0)) c.in-Blocked.is c.product_for-made.ensures)
+    let e : c.from_residual.result ≡ Err c.in_err-c.field-0.0 = search rules in
+    rw e (turn_blocked a.n a.context.now l.invariant.0 c.loop-i-test.true (c.in_err-c.ensures))
 
 pub offset_bounds-products-m : goal.offset_bounds-products-m
 offset_bounds-products-m c = let l = c.loop-i in record { fits = omega (arith, l.invariant.0.choosing.few, l.invariant.0.choosing.low, l.invariant.0.choosing.many) }
 
 pub bounds-products-m : goal.bounds-products-m
 bounds-products-m c = let l = c.loop-i in omega (arith, l.invariant.0.choosing.few, l.invariant.0.choosing.room, c.loop-i-test.true)
-
-pub slice_bounds-uncovered-end-in-Product : goal.slice_bounds-uncovered-end-in-Product
-slice_bounds-uncovered-end-in-Product c = lent_low c.loop-i.invariant.2
 
 pub slice_bounds-taken-end : goal.slice_bounds-taken-end
 slice_bounds-taken-end c = lent_room c.loop-i.invariant.2
@@ -89,28 +88,25 @@ note-requires c =
 pub overflow_add-m : goal.overflow_add-m
 overflow_add-m c = let l = c.loop-i in record { fits = omega (arith, l.invariant.0.choosing.few, l.invariant.0.choosing.many, c.loop-i-test.true) }
 
-pub loop-i-smaller-in-Product : goal.loop-i-smaller-in-Product
-loop-i-smaller-in-Product c = omega (arith, c.loop-i-test.true)
-
 -- The word that is chosen holds a dhf-prime around the required cube.
 word-is : (c : After-pack)
     → let a = c.args in
     let v = get_or a.required.now c.loop-i.i 0 in
-    PrimeWord a.n (off_in a.context.now) (privileged_of a.n a.context.now) c.pack.result × T (inside (cube_in a.n v) (cube_in a.n c.pack.result)) × (cube_in a.n c.pack.result ≡ cube_of a.n c.in-Product.c)
+    PrimeWord a.n (off_in a.context.now) (privileged_of a.n a.context.now) c.pack.result × T (inside (cube_in a.n v) (cube_in a.n c.pack.result)) × (cube_in a.n c.pack.result ≡ cube_of a.n c.in_ok-c.c)
 word-is c =
     let a = c.args in
     let v = get_or a.required.now c.loop-i.i 0 in
-    let h = subst (MadeFor a.n (off_in a.context.now) (privileged_of a.n a.context.now) v) c.in-Product.is c.product_for-made.ensures in
+    let h = subst (MadeFor a.n (off_in a.context.now) (privileged_of a.n a.context.now) v) c.in_ok-c.was c.product_for.ensures in
     let w = product-word a.n a.context.now v h c.pack.ensures in
     (w.0, w.1, product-cube a.n a.context.now h c.pack.ensures)
 
-pub loop-i-preserved-in-Product : goal.loop-i-preserved-in-Product
-loop-i-preserved-in-Product c =
+pub loop-i-preserved : goal.loop-i-preserved
+loop-i-preserved c =
     let l = c.loop-i in
     let t = c.loop-i-test.true in
-    let w = word-is (goal.at.loop-i-preserved-in-Product c).After-pack in
+    let w = word-is (goal.at.loop-i-preserved c).After-pack in
     let p = c.pack.result in
-    let d = c.in-Product.c in
+    let d = c.in_ok-c.c in
     let z = c.flag_product in
     let h = c.note in
     let took = lent_took l.invariant.2 z.ensures z.auto.uncovered z.auto.taken in (
@@ -120,8 +116,8 @@ loop-i-preserved-in-Product c =
       lent_next l.invariant.2 z.ensures z.auto.uncovered z.auto.taken z.auto.flags,
     )
 
-pub loop-i-preserved : goal.loop-i-preserved
-loop-i-preserved c =
+pub loop-i-preserved-then-flags-i : goal.loop-i-preserved-then-flags-i
+loop-i-preserved-then-flags-i c =
     let a = c.args in
     let l = c.loop-i in
     let t = c.loop-i-test.true in

@@ -1,5 +1,5 @@
 use mathlib.Core.Path.{refl, sym, ap, ◌∙◌, subst}
-use mathlib.Core.Option.{some}
+use Rattle.std.specs.Prelude.{Some}
 use lib.ListN.{get_or}
 use Rattle.hazard.specs.Cube.{Cube}
 use Rattle.cube.specs.Entry.{required_in, cube_in}
@@ -24,7 +24,7 @@ pub returns-in_default : goal.returns-in_default
 returns-in_default c =
     let a = c.args in
     let r = required_in a.n (get_or a.required.now a.i 0) in
-    sym (checked r (grows (goal.at.returns-in_default c).After-grow-grown) refl) ∙ blocked_refusal a.n r c.in_default.is ∙ ap some (sym (c.refusal_of.ensures a.n))
+    sym (checked r (grows (goal.at.returns-in_default c).After-grow-grown) refl) ∙ blocked_refusal a.n r c.in_default.is ∙ ap Some (sym (c.refusal_of.ensures a.n))
 
 pub widened-requires : goal.widened-requires
 widened-requires c =

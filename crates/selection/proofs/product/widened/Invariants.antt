@@ -4,8 +4,5 @@ use Rattle.rows.specs.Sets.{most_words}
 use Rattle.selection.proofs.Products.{Stage}
 use Rattle.selection.proofs.product.widened.Given as goal
 
-abbrev pub invariant-loop-tries : goal.invariant-loop-tries
-invariant-loop-tries l = Stage l.n l.context (cube_of l.n l.initial.p) l.p × (l.b < most_words)
-
-abbrev pub decreases-loop-tries : goal.decreases-loop-tries
-decreases-loop-tries l = l.tries
+abbrev pub invariant-loop-row : goal.invariant-loop-row
+invariant-loop-row l = Stage l.n l.context (cube_of l.n l.initial.p) l.p × (l.b < most_words)

@@ -15,18 +15,18 @@ use Rattle.sets.proofs.Gather.{held, privileged_step, privileged_done, entry_few
 use Rattle.sets.proofs.privileged.privileged_into.Goals as goal
 
 pub loop-t-init : goal.loop-t-init
-loop-t-init c = let a = c.args in (omega arith, omega arith, rw sub-zero (filling_start a.n (privileged_in a.n) a.out.now 0 (privileged a.n (table_in a.n a.context.now) a.transitions.now)))
+loop-t-init c = let a = c.args in (omega arith, rw sub-zero (filling_start a.n (privileged_in a.n) a.out.now 0 (privileged a.n (table_in a.n a.context.now) a.transitions.now)))
 
-pub kind_of-requires : goal.kind_of-requires
-kind_of-requires c =
+pub kind_of-kind-requires : goal.kind_of-kind-requires
+kind_of-kind-requires c =
     let r = c.requires.ready in
-    (r.planes.long, rw c.start_of-a.ensures (listed-few r.listed (r.listed.within _)), rw c.end_of-b.ensures (listed-few r.listed (r.listed.within _)))
+    (r.planes.long, rw c.transition_at-transition.ensures.0 (listed-few r.listed (r.listed.within _)), rw c.transition_at-transition.ensures.1 (listed-few r.listed (r.listed.within _)))
 
 pub store_privileged-k-requires : goal.store_privileged-k-requires
 store_privileged-k-requires c =
     let r = c.requires.ready in
     let l = c.loop-t in
-    (r.planes.few, rw c.start_of-a.ensures (r.listed.within _), rw c.end_of-b.ensures (r.listed.within _), omega (arith, r.listed.few, c.requires.room, l.invariant.0, l.invariant.1, l.invariant.2.stored.long, c.loop-t-test.true))
+    (r.planes.few, rw c.transition_at-transition.ensures.0 (r.listed.within _), rw c.transition_at-transition.ensures.1 (r.listed.within _), omega (arith, r.listed.few, c.requires.room, l.invariant.0, l.invariant.1.stored.long, c.loop-t-test.true))
 
 pub loop-t-preserved : goal.loop-t-preserved
 loop-t-preserved c =
@@ -36,15 +36,15 @@ loop-t-preserved c =
     let l = c.loop-t in
     let h = c.loop-t-test.true in
     let q = c.store_privileged-k.ensures in
-    let e = ready_ends c.requires.ready l.t h (λ k x y. cond (dynamic k) (privileged_by a.n k l.t x y ∷ []) []) c.kind_of.ensures c.start_of-a.ensures c.end_of-b.ensures in
+    let e = ready_ends c.requires.ready l.t h (λ k x y. cond (dynamic k) (privileged_by a.n k l.t x y ∷ []) []) c.kind_of-kind.ensures c.transition_at-transition.ensures.0 c.transition_at-transition.ensures.1 in
     let few = entry_few (dynamic (kind_at f ts l.t)) (privileged_by a.n (kind_at f ts l.t) l.t (spec.start ts l.t) (spec.end ts l.t)) in
-    (omega arith, omega (arith, q.size, ap length e, few, l.invariant.1), filling_more l.invariant.2 (stored_as e q) (privileged_step a.n f ts l.t h))
+    (omega (arith, q.size, ap length e, few, l.invariant.0), filling_more l.invariant.1 (stored_as e q) (privileged_step a.n f ts l.t h))
 
 pub shape_of-out : goal.shape_of-out
-shape_of-out c = c.loop-t.invariant.2.stored.long
+shape_of-out c = c.loop-t.invariant.1.stored.long
 
 pub returns : goal.returns
 returns c =
     let a = c.args in
     let l = c.loop-t in
-    (omega (arith, l.invariant.0, l.invariant.1, c.requires.ready.listed.few), held (filling_end l.invariant.2 (privileged_done a.n (table_in a.n a.context.now) a.transitions.now l.t c.loop-t-test.false)))
+    (omega (arith, l.invariant.0, c.requires.ready.listed.few), held (filling_end l.invariant.1 (privileged_done a.n (table_in a.n a.context.now) a.transitions.now l.t c.loop-t-test.false)))

@@ -7,7 +7,4 @@ use Rattle.entries.proofs.Filling.{Filling}
 use Rattle.sets.proofs.privileged.privileged_into.Given as goal
 
 abbrev pub invariant-loop-t : goal.invariant-loop-t
-invariant-loop-t l = (l.t ≤ spec.count l.transitions) × (l.k ≤ l.t) × Filling l.n (privileged_in l.n) l.initial.out l.out 0 l.k (privileged_from l.n (table_in l.n l.context) l.transitions l.t (spec.count l.transitions - l.t)) (privileged l.n (table_in l.n l.context) l.transitions)
-
-abbrev pub decreases-loop-t : goal.decreases-loop-t
-decreases-loop-t l = spec.count l.transitions - l.t
+invariant-loop-t l = (l.k ≤ l.t) × Filling l.n (privileged_in l.n) l.initial.out l.out 0 l.k (privileged_from l.n (table_in l.n l.context) l.transitions l.t (spec.count l.transitions - l.t)) (privileged l.n (table_in l.n l.context) l.transitions)

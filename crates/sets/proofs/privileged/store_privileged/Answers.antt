@@ -15,8 +15,8 @@ returns-then-is_dynamic c =
     let a = c.args in
     let e = c.start_point.ensures in
     stored_yes (sym c.is_dynamic.ensures ∙ c.if-is_dynamic.true)
-    (stored_one a.out.now a.at c.pack.result c.requires.3 (packed_clean c.pack.ensures c.span_of.ensures (omega (arith, e, start-lt (kind_is a.k) a.a a.b c.requires.1 c.requires.2)))
-    (word-privileged c.pack.ensures c.span_of.ensures ∙ ap (λ (x : ℕ). record { transition = a.t; cube = span a.n a.a a.b; start = x }) e))
+    (stored_one a.out.now a.at c.pack.result c.requires.3 (packed_clean c.pack.ensures c.span_of.ensures (omega (arith, e, start-lt (kind_is a.k) a.transition.start a.transition.end c.requires.1 c.requires.2)))
+    (word-privileged c.pack.ensures c.span_of.ensures ∙ ap (λ (x : ℕ). record { transition = a.t; cube = span a.n a.transition.start a.transition.end; start = x }) e))
 
 pub returns : goal.returns
-returns c = let a = c.args in stored_no (privileged_by a.n (kind_is a.k) a.t a.a a.b) (sym c.is_dynamic.ensures ∙ c.if-is_dynamic.false) a.out.now a.at
+returns c = let a = c.args in stored_no (privileged_by a.n (kind_is a.k) a.t a.transition.start a.transition.end) (sym c.is_dynamic.ensures ∙ c.if-is_dynamic.false) a.out.now a.at

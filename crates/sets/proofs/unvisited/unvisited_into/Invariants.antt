@@ -1,10 +1,6 @@
-use Prim.Native.Nat.{◌-◌, ◌≤◌}
 use Rattle.cube.proofs.Sweep.{Sweep}
 use Rattle.sets.proofs.Leaving.{left_word}
 use Rattle.sets.proofs.unvisited.unvisited_into.Given as goal
 
 abbrev pub invariant-loop-w : goal.invariant-loop-w
-invariant-loop-w l = (l.w ≤ 16) × Sweep (λ u v. left_word l.ones l.visited u) 0 l.initial.out l.out l.w
-
-abbrev pub decreases-loop-w : goal.decreases-loop-w
-decreases-loop-w l = 16 - l.w
+invariant-loop-w l = Sweep (λ u v. left_word l.ones l.visited u) 0 l.initial.out l.out l.w

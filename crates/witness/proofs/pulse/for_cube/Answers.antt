@@ -1,26 +1,25 @@
-use mathlib.Core.Path.{ap}
+use mathlib.Core.Path.{◌≡◌, refl, ap}
+use mathlib.Core.Bool.{false}
 use native.Mathlib.Omega.{arith}
 use Rattle.hazard.specs.Shown.{is_high}
 use Rattle.kinds.specs.Codes.{kind_is}
 use Rattle.kinds.specs.declared.kind.Kind.{Kind}
+use Rattle.kinds.specs.declared.kind.Kind.TheVariants.{Low, Rise, Fall, High}
 use Rattle.witness.proofs.Shows.{past_run, other_run, high_run}
 use Rattle.witness.proofs.pulse.for_cube.Goals as goal
 
 pub returns-then-transitions-k : goal.returns-then-transitions-k
-returns-then-transitions-k c n r x net = past_run r net c.args.k x c.if-transitions-k.true
+returns-then-transitions-k c n r x net = past_run r net c.args.k x (omega arith)
 
-pub returns-in-Low : goal.returns-in-Low
-returns-in-Low c n r x net =
-    other_run r net c.args.k (omega (arith, c.if-transitions-k.false)) c.pulse_at-p.ensures x (ap (λ (κ : Kind). is_high (kind_is κ)) c.in-Low.is)
+-- A transition of another kind is not from 1 to 1.
+other_kind : (k : Kind) → (k ≡ High → ⊥) → is_high (kind_is k) ≡ false
+other_kind Low h = refl
+other_kind Rise h = refl
+other_kind Fall h = refl
+other_kind High h = absurd (h refl)
 
-pub returns-in-Rise : goal.returns-in-Rise
-returns-in-Rise c n r x net =
-    other_run r net c.args.k (omega (arith, c.if-transitions-k.false)) c.pulse_at-p.ensures x (ap (λ (κ : Kind). is_high (kind_is κ)) c.in-Rise.is)
+pub returns-in_default : goal.returns-in_default
+returns-in_default c n r x net = other_run r net c.args.k (omega arith) c.pulse_at-p.ensures x (other_kind c.pulse_at-p.result.kind c.in_default.not-High)
 
-pub returns-in-Fall : goal.returns-in-Fall
-returns-in-Fall c n r x net =
-    other_run r net c.args.k (omega (arith, c.if-transitions-k.false)) c.pulse_at-p.ensures x (ap (λ (κ : Kind). is_high (kind_is κ)) c.in-Fall.is)
-
-pub returns-in-High : goal.returns-in-High
-returns-in-High c n r x net =
-    high_run r net c.args.k (omega (arith, c.if-transitions-k.false)) c.pulse_at-p.ensures x (ap kind_is c.in-High.is)
+pub returns : goal.returns
+returns c n r x net = high_run r net c.args.k (omega arith) c.pulse_at-p.ensures x (ap kind_is c.in-High.is)

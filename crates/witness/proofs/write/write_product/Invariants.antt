@@ -1,11 +1,6 @@
-use Prim.Native.Nat.{◌-◌, ◌≤◌}
-use lib.ListN.{length}
 use Rattle.kinds.specs.Codes.{kind_is}
 use Rattle.witness.proofs.Phases.{InputsLeft}
 use Rattle.witness.proofs.write.write_product.Given as goal
 
 abbrev pub invariant-loop-i : goal.invariant-loop-i
-invariant-loop-i l = InputsLeft (kind_is l.p.kind) l.p.product l.p.start l.p.end l.q l.m l.digits l.initial.wires l.from l.wires l.at l.i × (l.i ≤ length l.digits)
-
-abbrev pub decreases-loop-i : goal.decreases-loop-i
-decreases-loop-i l = length l.digits - l.i
+invariant-loop-i l = InputsLeft (kind_is l.p.kind) l.p.product l.p.start l.p.end l.q l.m l.digits l.initial.wires l.from l.wires l.at l.i

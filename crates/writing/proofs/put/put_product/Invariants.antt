@@ -1,12 +1,8 @@
-use mathlib.Core.List.{map}
-use Prim.Native.Nat.{◌-◌, ◌≤◌}
-use lib.ListN.{length}
+use Rattle.std.proofs.Common.{◌+◌, map, take}
 use Rattle.problem_text.specs.Form.{cell}
-use Rattle.writing.proofs.Writing.{Writing}
+use Rattle.writing.specs.Wrote.{Wrote}
 use Rattle.writing.proofs.put.put_product.Given as goal
 
+-- The characters of the first digits are written.
 abbrev pub invariant-loop-i : goal.invariant-loop-i
-invariant-loop-i l = (l.i ≤ length l.product) × Writing (map cell l.product) l.initial.out l.at l.out l.i
-
-abbrev pub decreases-loop-i : goal.decreases-loop-i
-decreases-loop-i l = length l.product - l.i
+invariant-loop-i l = Wrote l.initial.out l.at (map cell (take l.i l.product)) l.out (l.at + l.i)

@@ -1,5 +1,0 @@
-use mathlib.Core.Path.{refl, ◌∙◌}
-use Rattle.refusal.proofs.refusal.refuse.Goals as goal
-
-pub returns : goal.returns
-returns c = c.refusal_with.ensures ∙ refl
