@@ -1,8 +1,6 @@
 // Both calls against a counterpart that moves wires and tries sets of products.
 #![tactic(auto)]
 
-mod bytes;
-mod calls;
 mod counts;
 mod draw;
 mod drawn;
@@ -10,34 +8,62 @@ mod faults;
 mod instance;
 mod minimising;
 mod network;
+mod product;
 mod report;
 mod required;
 mod samples;
+mod set;
+mod table;
+mod transition;
+mod trial;
 mod trying;
-mod verdict;
 mod verifying;
 mod wires;
 
-use crate::samples::{ALL, ALONE, all_of_two, sample};
+use crate::instance::Instance;
+use crate::samples::{all_of_two, sample};
+use crate::table::Table;
+use crate::transition::Transition;
+use std::alloc::{AllocError, Global};
 use std::io;
 
-// How many tables of three inputs there are, and how many seeded instances of three and of four.
+// How many tables of two inputs there are, and of three, and how many seeded instances of three and of four are taken.
+const TWO: u64 = 81;
+
 const TABLES: u64 = 6561;
 
 const THREE: u64 = 100000;
 
 const FOUR: u64 = 150000;
 
+// A table of two inputs with one of the 16 transitions.
+fn with_transition(alloc: Global, code: u64) -> Result<Instance, AllocError> {
+    let table = Table::with_code(2, code / 16);
+    let t = Transition {
+        from: table.point_from(code),
+        to: table.point_from(code / 4),
+    };
+    Instance::new(alloc, table, vec![in alloc; t]?)
+}
+
+fn without_transition(alloc: Global, n: u16, code: u64) -> Result<Instance, AllocError> {
+    Instance::new(alloc, Table::with_code(n, code), Vec::new(alloc))
+}
+
 // The number of inputs is the seed of a sample.
 fn main(rt: HostRuntime) -> io::Result<()> {
-    let counts = all_of_two(0..ALONE);
+    let alloc = rt.alloc();
+    let counts = all_of_two(alloc, TWO * 16, |code| with_transition(alloc, code))?;
     print!(rt; "2 inputs: all tables, all transitions, all sets of products\n{counts}")?;
-    let counts = all_of_two(ALONE..ALL);
+    let counts = all_of_two(alloc, TWO, |code| without_transition(alloc, 2, code))?;
     print!(rt; "2 inputs: all tables, no transition, all sets of products\n{counts}")?;
-    let counts = sample(3, 0, TABLES, 3);
+    let table = |code: u64, _: u64| without_transition(alloc, 3, code);
+    let counts = sample(alloc, TABLES, 3, table)?;
     print!(rt; "3 inputs: all tables, no transition\n{counts}")?;
-    let counts = sample(3, 5, THREE, 3);
+    let drawn = |_: u64, seed: u64| Instance::drawn(alloc, 3, 5, seed);
+    let counts = sample(alloc, THREE, 3, drawn)?;
     print!(rt; "3 inputs: seeded, up to 5 transitions\n{counts}")?;
-    let counts = sample(4, 8, FOUR, 4);
+    let drawn = |_: u64, seed: u64| Instance::drawn(alloc, 4, 8, seed);
+    let counts = sample(alloc, FOUR, 4, drawn)?;
     print!(rt; "4 inputs: seeded, up to 8 transitions\n{counts}")
 }

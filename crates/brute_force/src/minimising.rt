@@ -1,15 +1,12 @@
 // The minimiser against the counterpart.
-use crate::bytes::network_from;
-use crate::calls::answer_to;
-use crate::counts::{Counts, add, expect};
-use crate::faults::inside_legal;
-use crate::instance::{Fields, Instance, first_refused, unvisited};
-use crate::network::{Network, product_at, without};
-use crate::required::first_blocked;
-use crate::trying::some_hazard_free;
-use crate::verifying::{expect_hazard_free, passes, refuses};
+use crate::counts::{add, expect};
+use crate::network::Network;
+use crate::trial::Trial;
+use conditions::fault::Verdict;
+use refusal::refusal::Refusal;
+use std::alloc::AllocError;
+use testing::calls::Written;
 use testing::marks::{MARK, is_marked};
-use testing::products::{in_sequence, network_and_rest};
 
 // Which way an instance went.
 #[derive(Clone, Copy)]
@@ -19,113 +16,111 @@ pub enum Answer {
     Made(Network),
 }
 
-// Without any one product the network is not hazard-free, and none lies inside a larger legal one.
-fn drops(p: Instance, net: Network, counts: &mut Counts) {
-    for j in 0..net.count {
-        expect(
-            &mut counts.disagreements.inside,
-            !inside_legal(p, product_at(net, j)),
-        );
-        add(&mut counts.dropped);
-        let (wrong, wide) = (&mut counts.disagreements.droppable, &mut counts.too_wide);
-        expect_hazard_free(p, without(net, j), false, wrong, wide);
+impl Trial {
+    // Without any one product the network is not hazard-free, and none lies inside a larger legal one.
+    fn drops(&mut self, net: Network) {
+        for j in 0..net.count {
+            let largest = !self.instance.has_larger(net.product(j));
+            expect(&mut self.counts.disagreements.inside, largest);
+            add(&mut self.counts.dropped);
+            let needed = self.is_as_expected(net.without(j), false);
+            expect(&mut self.counts.disagreements.droppable, needed);
+        }
     }
-}
 
-// A hazard-free network, in which each product is needed and as large as can be.
-fn minimal(p: Instance, net: Network, count: usize, counts: &mut Counts) {
-    add(&mut counts.minimised);
-    if 3 <= count {
-        add(&mut counts.large);
+    // A problem that is not refused, by the counterpart either.
+    fn accepted(&mut self) {
+        let accepted = self.instance.refusal().is_none();
+        expect(&mut self.counts.disagreements.acceptance, accepted);
     }
-    if unvisited(p) != 0 {
-        add(&mut counts.unvisited);
+
+    // A hazard-free network, in which each product is needed and as large as can be.
+    fn minimal(&mut self, net: Network, count: usize) {
+        add(&mut self.counts.minimised);
+        if 3 <= count {
+            add(&mut self.counts.large);
+        }
+        if self.instance.unvisited() != 0 {
+            add(&mut self.counts.unvisited);
+        }
+        self.accepted();
+        let all_read = usize::from(net.count) == count;
+        expect(&mut self.counts.disagreements.hazard, all_read);
+        let hazard_free = self.is_as_expected(net, true);
+        expect(&mut self.counts.disagreements.hazard, hazard_free);
+        self.drops(net);
     }
-    expect(
-        &mut counts.disagreements.acceptance,
-        first_refused(p).is_none(),
-    );
-    expect(&mut counts.disagreements.hazard, net.count == count as u64);
-    expect_hazard_free(
-        p,
-        net,
-        true,
-        &mut counts.disagreements.hazard,
-        &mut counts.too_wide,
-    );
-    drops(p, net, counts);
-}
 
-// What the minimiser wrote: a minimal network in sequence that the verifier passes, and no byte more.
-fn made(p: Instance, cover: &[u8], count: usize, counts: &mut Counts) -> Answer {
-    let n = p.n as usize;
-    let (bytes, rest) = network_and_rest(n, count, cover);
-    let net = network_from(n, bytes);
-    minimal(p, net, count, counts);
-    expect(&mut counts.disagreements.past_the_end, is_marked(rest));
-    expect(&mut counts.disagreements.not_passed, passes(p, bytes));
-    expect(
-        &mut counts.disagreements.out_of_sequence,
-        in_sequence(n, bytes),
-    );
-    Answer::Made(net)
-}
-
-fn add_steps(steps: u64, counts: &mut Counts) {
-    match steps {
-        1 => add(&mut counts.steps_1),
-        2 => add(&mut counts.steps_2),
-        3 => add(&mut counts.steps_3),
-        _ => {}
+    // What the minimiser wrote: a minimal network in sequence that the verifier passes, and no byte more.
+    fn made(&mut self, written: Written<'_>) -> Network {
+        let Written {
+            count,
+            products,
+            rest,
+        } = written;
+        let net = Network::from(products);
+        self.minimal(net, count);
+        expect(&mut self.counts.disagreements.past_the_end, is_marked(rest));
+        let verdict = self.instance.problem().verdict(products.bytes);
+        let passed = matches!(verdict, Ok(Verdict::Passed));
+        expect(&mut self.counts.disagreements.not_passed, passed);
+        let in_sequence = products.in_sequence();
+        expect(&mut self.counts.disagreements.out_of_sequence, in_sequence);
+        net
     }
-}
 
-// Refusal 10: no set of products is hazard-free, even if nothing is asked at the 1s that no transition visits, and the fields name the
-// first cube that blocks.
-fn none(p: Instance, r: Fields, counts: &mut Counts) -> Answer {
-    add(&mut counts.none);
-    add_steps(r[3], counts);
-    expect(
-        &mut counts.disagreements.acceptance,
-        first_refused(p).is_none(),
-    );
-    expect(
-        &mut counts.disagreements.fields_of_none,
-        first_blocked(p) == Some(r),
-    );
-    let found = some_hazard_free(p, &mut counts.sets);
-    expect(&mut counts.disagreements.hazard_free_set, !found);
-    Answer::None
-}
-
-// A refusal by check 6 or 7, as the counterpart has it, and by both calls.
-fn declined(p: Instance, r: Fields, counts: &mut Counts) -> Answer {
-    match r[0] {
-        6 => add(&mut counts.refused_6),
-        7 => add(&mut counts.refused_7),
-        _ => {}
+    fn add_steps(&mut self, steps: u16) {
+        match steps {
+            1 => add(&mut self.counts.steps_1),
+            2 => add(&mut self.counts.steps_2),
+            3 => add(&mut self.counts.steps_3),
+            _ => {}
+        }
     }
-    let own = first_refused(p);
-    expect(&mut counts.disagreements.acceptance, own == Some(r));
-    refuses(p, own, counts);
-    Answer::Refused
-}
 
-// A refusal, after which the buffer is as it was.
-fn refused(p: Instance, r: Fields, cover: &[u8], counts: &mut Counts) -> Answer {
-    expect(&mut counts.disagreements.buffer, is_marked(cover));
-    if r[0] == 10 {
-        none(p, r, counts)
-    } else {
-        declined(p, r, counts)
+    // A cube blocks: no set of products is hazard-free, even if nothing is asked at the 1s that no transition visits, and the fields name
+    // the first that blocks.
+    fn none(&mut self, r: Refusal) -> Result<(), AllocError> {
+        add(&mut self.counts.none);
+        self.accepted();
+        let same = self.instance.first_blocked() == Some(r);
+        expect(&mut self.counts.disagreements.fields_of_none, same);
+        let found = self.some_hazard_free()?;
+        expect(&mut self.counts.disagreements.hazard_free_set, !found);
+        Ok(())
     }
-}
 
-// An instance through the minimiser.
-pub(crate) fn minimises(p: Instance, counts: &mut Counts) -> Answer {
-    let mut cover = [MARK; 256];
-    match answer_to(p, &mut cover) {
-        Ok(count) => made(p, &cover, count, counts),
-        Err(r) => refused(p, r, &cover, counts),
+    // A refusal by check 6 or 7, as the counterpart has it, and by both calls.
+    fn declined(&mut self, r: Refusal) {
+        let own = self.instance.refusal();
+        expect(&mut self.counts.disagreements.acceptance, own == Some(r));
+        self.declines(own);
+    }
+
+    // A refusal, after which the buffer is as it was.
+    fn without_network(&mut self, r: Refusal, cover: &[u8]) -> Result<Answer, AllocError> {
+        expect(&mut self.counts.disagreements.buffer, is_marked(cover));
+        match r {
+            Refusal::Blocked { steps, .. } => {
+                self.add_steps(steps);
+                self.none(r)?;
+                return Ok(Answer::None);
+            }
+            Refusal::DontCare { .. } => add(&mut self.counts.dont_care),
+            Refusal::FunctionHazard { .. } => add(&mut self.counts.function_hazard),
+            _ => {}
+        }
+        self.declined(r);
+        Ok(Answer::Refused)
+    }
+
+    // The instance through the minimiser.
+    pub(crate) fn minimises(&mut self) -> Result<Answer, AllocError> {
+        let mut cover = [MARK; 256];
+        let answer = self.instance.problem().minimised(&mut cover);
+        match answer {
+            Ok(written) => Ok(Answer::Made(self.made(written))),
+            Err(r) => self.without_network(r, &cover),
+        }
     }
 }

@@ -51,7 +51,7 @@ impl fmt::Display for Counts {
         writeln!(
             f,
             "minimised {}, of them with 3 or more products {}, with a 1 that no transition visits {}, none {}, refused 6 {}, refused 7 {}",
-            c.minimised, c.large, c.unvisited, c.none, c.refused_6, c.refused_7
+            c.minimised, c.large, c.unvisited, c.none, c.dont_care, c.function_hazard
         )?;
         writeln!(f, "products dropped {}", c.dropped)?;
         writeln!(

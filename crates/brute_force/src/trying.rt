@@ -1,57 +1,47 @@
-// None: by trying sets of products that contain no 0. Nothing is asked at the 1s that no transition visits: that small sets miss one there
-// would show nothing.
-ghost use Rattle.std.specs.Prelude.{◌≤◌, length};
-
+// No network: by trying sets of products that contain no 0. Nothing is asked at the 1s that no transition visits: that small sets miss one
+// there would show nothing.
 use crate::counts::add;
-use crate::faults::holds_no_zero;
-use crate::instance::Instance;
-use crate::network::{Network, Product, empty, product_of, products_of, push};
-use crate::wires::{Found, hazard_free_visited};
+use crate::network::Network;
+use crate::product::{Product, products_of};
+use crate::trial::Trial;
+use crate::wires::Found;
+use std::alloc::AllocError;
 
-// The products that contain no 0, put into the room, and how many they are.
-fn implicants_into(p: Instance, room: &mut [Product]) -> usize
-    ensures { result ≤ length room.new }
-{
-    let mut count = 0;
-    for code in 0..products_of(p.n) {
-        let q = product_of(p.n, code);
-        if holds_no_zero(p, q) && count < room.len() {
-            room[count] = q;
-            count += 1;
+impl Trial {
+    fn is_hazard_free(&mut self, net: Network) -> bool {
+        add(&mut self.counts.sets);
+        let due = self.instance.table.ones & self.instance.visited;
+        self.instance.found_of(net, due) == Found::HazardFree
+    }
+
+    // Whether the network is hazard-free with 1 to `most` of these products more.
+    fn with_more(&mut self, net: Network, products: &[Product], most: u64) -> bool {
+        if most == 0 {
+            return false;
         }
-    }
-    count
-}
-
-fn is_hazard_free(p: Instance, net: Network, sets: &mut u64) -> bool {
-    add(sets);
-    hazard_free_visited(p, net) == Found::HazardFree
-}
-
-// Whether the network is hazard-free with 1 to `most` of these products more.
-fn with_more(p: Instance, net: Network, products: &[Product], most: u64, sets: &mut u64) -> bool {
-    if most == 0 {
-        return false;
-    }
-    for (i, q) in products.iter().enumerate() {
-        let more = push(net, *q);
-        if is_hazard_free(p, more, sets) {
-            return true;
+        for (i, q) in products.iter().enumerate() {
+            let more = net.with(*q);
+            if self.is_hazard_free(more) {
+                return true;
+            }
+            if self.with_more(more, &products[i + 1..], most - 1) {
+                return true;
+            }
         }
-        if with_more(p, more, &products[i + 1..], most - 1, sets) {
-            return true;
-        }
+        false
     }
-    false
-}
 
-// Whether some set of up to three products is hazard-free, and of up to four where there are three inputs.
-pub(crate) fn some_hazard_free(p: Instance, sets: &mut u64) -> bool {
-    if is_hazard_free(p, empty(), sets) {
-        return true;
+    // Whether some set of up to three products is hazard-free, and of up to four where there are three inputs.
+    pub(crate) fn some_hazard_free(&mut self) -> Result<bool, AllocError> {
+        if self.is_hazard_free(Network::default()) {
+            return Ok(true);
+        }
+        let table = self.instance.table;
+        let implicants: Vec<Product> = (0..products_of(table.n))
+            .map(|code| Product::with_code(table.n, code))
+            .filter(|q| table.holds_no_zero(*q))
+            .collect(self.alloc)?;
+        let most = if table.n == 3 { 4 } else { 3 };
+        Ok(self.with_more(Network::default(), &implicants, most))
     }
-    let mut room = [Product { care: 0, value: 0 }; 81];
-    let count = implicants_into(p, &mut room);
-    let most = if p.n == 3 { 4 } else { 3 };
-    with_more(p, empty(), &room[..count], most, sets)
 }

@@ -1,2 +1,1 @@
-pub mod Problem
-pub mod Answer
+pub mod Sets

@@ -1,6 +1,5 @@
 -- The first product that contains a cube.
-use Rattle.std.specs.Prelude.{Option}
-use Rattle.std.specs.Prelude.{ℕ, length}
+use Rattle.std.specs.Prelude.{Option, ℕ, length}
 use Rattle.hazard.specs.Search.{first}
 use Rattle.hazard.specs.Cube.{Cube, inside}
 use Rattle.hazard.specs.Cover.{Network, product_at}

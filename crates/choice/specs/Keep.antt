@@ -1,7 +1,6 @@
 -- What the choice is handed, and what it leaves.
-use Rattle.std.specs.Prelude.{◌≡◌, Bool, false, not, ◌&&◌, ℕ, ◌≤◌, ◌<◌, T, eqb, length, get_or, drop}
+use Rattle.std.specs.Prelude.{◌≡◌, Bool, false, not, ◌&&◌, ℕ, ◌≤◌, ◌<◌, T, eqb, length, get_or, drop, Some}
 use mathlib.Core.List.{List, map, Memᴰ}
-use Rattle.std.specs.Prelude.{Some}
 use Rattle.hazard.specs.Limits.{most_required}
 use Rattle.hazard.specs.Sets.{Required}
 use Rattle.hazard.specs.Cover.{covered, Irredundant}

@@ -7,24 +7,20 @@ ghost use Rattle.flags.specs.Rows.{Inside};
 ghost use Rattle.choice.specs.Keep.{needed_in, Lowest, Noted, Kept};
 
 use cube::entry::cube_in;
+use cube::inputs::Inputs;
 use flags::flag::flag_product;
 use hazard::limits::MOST_REQUIRED;
 use rows::whole::whole_into;
-
-// Required cube i has product j for its first, and its flag is not set: it lies in no product kept so far.
-fn needed_at(firsts: &[u16], flags: &[bool], j: u16, i: usize) -> bool
-    requires { (i < length firsts.now) × (i < length flags.now) }
-    ensures { result ≡ needed_in firsts.now flags.now j i }
-{
-    firsts[i] == j && !flags[i]
-}
 
 // Some required cube needs product j: it has it for its first, and lies in no product kept so far.
 fn needed_by_any(firsts: &[u16], flags: &[bool], j: u16) -> bool
     requires { length firsts.now ≤ length flags.now }
     ensures { result ≡ found (first (needed_in firsts.now flags.now j) 0 (length firsts.now)) }
 {
-    (0..firsts.len()).any(|i| needed_at(firsts, flags, j, i))
+    firsts
+        .iter()
+        .zip(flags)
+        .any(|(first, flag)| *first == j && !*flag)
 }
 
 // Some required cube needs product j. The lowest that has it for its first mostly does, so it is asked before the others.
@@ -33,7 +29,7 @@ fn needed(firsts: &[u16], flags: &[bool], j: u16, lowest: u16) -> bool
     ensures { result ≡ found (first (needed_in firsts.now flags.now j) 0 (length firsts.now)) }
 {
     let i = lowest as usize;
-    (i < firsts.len() && needed_at(firsts, flags, j, i)) || needed_by_any(firsts, flags, j)
+    (i < firsts.len() && firsts[i] == j && !flags[i]) || needed_by_any(firsts, flags, j)
 }
 
 // For each product the lowest required cube that has it for its first.
@@ -41,24 +37,26 @@ fn lowest_into(firsts: &[u16], lowest: &mut [u16])
     requires { (length firsts.now ≤ most_required) × (length lowest.old ≡ most_required) × ((i : ℕ) → i < length firsts.now → get_or firsts.now i 0 < most_required) }
     ensures { Lowest firsts.now lowest.new }
 {
-    for i in (0..firsts.len()).rev() {
-        lowest[firsts[i] as usize] = i as u16;
+    for (i, first) in firsts.iter().enumerate().rev() {
+        lowest[*first as usize] = i as u16;
     }
 }
 
 // Going backwards, a product is kept where some required cube needs it. Those kept are moved to the end, in their order; the place of the
 // first of them. The flags tell which required cubes lie in a kept product; the first b words of `uncovered` are the set of the others, and
-// `taken` is room for a set. `columns` has the required cubes for its rows.
+// `taken` is room for a set. They are no struct, because a turn lends all three at once, and no proof covers that of a struct's fields.
+// `columns` has the required cubes for its rows.
 pub fn irredundant_from(
-    n: usize,
+    n: Inputs,
     required: &[u64],
     columns: &[u64],
     firsts: &[u16],
     products: &mut [u64],
 ) -> usize
-    requires { (n ≤ 10) × Noted n required.now firsts.now products.old × Inside n required.now columns.now × (length required.now ≤ 64 * stride columns.now) }
-    ensures { Kept n required.now products.old products.new result }
+    requires { Noted n.count required.now firsts.now products.old × Inside n.count required.now columns.now × (length required.now ≤ 64 * stride columns.now) }
+    ensures { Kept n.count required.now products.old products.new result }
 {
+    // Rounded up by hand, as in the arrays' lengths, where no call may stand.
     let b = (required.len() + 63) / 64;
     let mut flags = [false; MOST_REQUIRED];
     let mut lowest = [0u16; MOST_REQUIRED];

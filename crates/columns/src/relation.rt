@@ -1,7 +1,9 @@
 // How rows may be related to a cube, and for one input the rows that allow each digit of the cube.
 ghost use Rattle.std.specs.Prelude.{◌||◌, ◌≤◌, ◌<◌, eqb, length};
-ghost use Rattle.hazard.specs.Cube.{fits};
-ghost use Rattle.columns.specs.Allowing.{Allowing, AllowedAt};
+ghost use Rattle.hazard.specs.Cube.{bit, fits};
+ghost use Rattle.cube.specs.Entry.{point_in};
+ghost use Rattle.columns.specs.Relation.{digit_in};
+ghost use Rattle.columns.specs.Allowing.{Allowing, AllowedAt, DigitsAt};
 
 use crate::column::column;
 use cube::entry::{CARE_BIT, POINT_BIT, VALUE_BIT};
@@ -23,54 +25,82 @@ pub struct Allowed {
     pub absent: u64,
 }
 
-// Three functions and not one with the test as a parameter: `inside_words` and `meeting_words` share no formula but `ones`.
+// The literals of up to 64 rows at one input: bit k of each word tells whether row k has one, and which.
+#[derive(Clone, Copy)]
+struct Literals {
+    care: u64,
+    value: u64,
+}
 
-// A row's digit is the cube's, or the cube has no literal.
-fn inside_words(care: u64, value: u64) -> Allowed
-    ensures { Allowing (λ e d. fits e d) care value result }
-{
-    let ones = care & value;
-    Allowed {
-        zero: care ^ ones,
-        one: ones,
-        absent: u64::MAX,
+impl Literals {
+    // Three methods, and not one that takes the test: `inside` and `meeting` share no formula but `ones`.
+
+    // A row's digit is the cube's, or the cube has no literal.
+    fn inside(self) -> Allowed
+        ensures { Allowing (λ e d. fits e d) self.care self.value result }
+    {
+        let ones = self.care & self.value;
+        Allowed {
+            zero: self.care ^ ones,
+            one: ones,
+            absent: u64::MAX,
+        }
+    }
+
+    // A row's digit is not the opposite literal.
+    fn meeting(self) -> Allowed
+        ensures { Allowing (λ e d. eqb d 2 || fits d e) self.care self.value result }
+    {
+        let ones = self.care & self.value;
+        Allowed {
+            zero: !ones,
+            one: !(self.care ^ ones),
+            absent: u64::MAX,
+        }
+    }
+
+    // A row has no literal, or the cube's: as for rows that meet it, but a row allows no absent literal where it has one.
+    fn containing(self) -> Allowed
+        ensures { Allowing (λ e d. fits d e) self.care self.value result }
+    {
+        Allowed {
+            absent: !self.care,
+            ..self.meeting()
+        }
     }
 }
 
-// A row's digit is not the opposite literal.
-fn meeting_words(care: u64, value: u64) -> Allowed
-    ensures { Allowing (λ e d. eqb d 2 || fits d e) care value result }
+// The literals of the rows' cubes at input i.
+fn cubes_at(rows: &[u64], i: usize) -> Literals
+    requires { (length rows.now ≤ 64) × (i < 10) }
+    ensures { DigitsAt (λ w. digit_in w i) rows.now result.care result.value }
 {
-    let ones = care & value;
-    Allowed {
-        zero: u64::MAX ^ ones,
-        one: u64::MAX ^ (care ^ ones),
-        absent: u64::MAX,
+    Literals {
+        care: column(rows, CARE_BIT + i),
+        value: column(rows, VALUE_BIT + i),
     }
 }
 
-// A row has no literal, or the cube's: as for rows that meet it, but a row allows no absent literal where it has one.
-fn containing_words(care: u64, value: u64) -> Allowed
-    ensures { Allowing (λ e d. fits d e) care value result }
+// The literals of the rows' points at input i: every one is present.
+fn points_at(rows: &[u64], i: usize) -> Literals
+    requires { (length rows.now ≤ 64) × (i < 10) }
+    ensures { DigitsAt (λ w. bit (point_in w) i) rows.now result.care result.value }
 {
-    Allowed {
-        absent: u64::MAX ^ care,
-        ..meeting_words(care, value)
+    Literals {
+        care: u64::MAX,
+        value: column(rows, POINT_BIT + i),
     }
 }
 
-// The words of input i. Every literal of a point is present.
+// The words of input i. A match: the relation is a value that contracts name, and not a step that a caller hands over.
 pub fn allowed_at(rel: Relation, rows: &[u64], i: usize) -> Allowed
     requires { (length rows.now ≤ 64) × (i < 10) }
     ensures { AllowedAt rel rows.now i result }
 {
     match rel {
-        Relation::Inside => inside_words(column(rows, CARE_BIT + i), column(rows, VALUE_BIT + i)),
-        Relation::Meets => meeting_words(column(rows, CARE_BIT + i), column(rows, VALUE_BIT + i)),
-        Relation::Contains => containing_words(
-            column(rows, CARE_BIT + i),
-            column(rows, VALUE_BIT + i),
-        ),
-        Relation::PointInside => inside_words(u64::MAX, column(rows, POINT_BIT + i)),
+        Relation::Inside => cubes_at(rows, i).inside(),
+        Relation::Meets => cubes_at(rows, i).meeting(),
+        Relation::Contains => cubes_at(rows, i).containing(),
+        Relation::PointInside => points_at(rows, i).inside(),
     }
 }

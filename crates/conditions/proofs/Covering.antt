@@ -21,7 +21,7 @@ use Rattle.cube.specs.PointSet.{in_set}
 use Rattle.cube.specs.declared.mask.Cube as masks
 use Rattle.cube.proofs.Networks.{product_in}
 use Rattle.blocks.specs.Blocks.{allowed_to}
-use Rattle.rows.proofs.Members.{lowest-few, lowest_set}
+use Rattle.cube.proofs.LowestBit.{lowest-few, lowest_set}
 use Rattle.conditions.specs.Rows.{Containing}
 
 -- A set has a row where one of its words is not 0.

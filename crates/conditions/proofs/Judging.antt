@@ -10,6 +10,7 @@ use Rattle.hazard.specs.Search.{first_place, first_of}
 use Rattle.hazard.specs.Sets.{Required}
 use Rattle.hazard.specs.Verdict.{Verdict, holds_zero, passed, fault_a, fault_c, fault_b, first_fault, fields_of}
 use Rattle.hazard.specs.Cover.{Network}
+use Rattle.context.specs.declared.context.Context.{Context}
 use Rattle.context.specs.Context.{off_in, privileged_of}
 use Rattle.cube.proofs.Scan.{left, Places, places_start, places_hit, places_miss, places_end}
 
@@ -56,9 +57,9 @@ fault-later (Some p) c b e = let q = ap (λ (v : Verdict). (fields_of v).number)
 fault-later None (Some p) b e = let q = ap (λ (v : Verdict). (fields_of v).number) e in absurd (omega (arith, q))
 fault-later None None b e = refl
 
-module _ (n : ℕ) (w : List ℕ) (rs : List Required) (net : Network) {v : Verdict} (e : v ≡ first_fault (fault_a n (off_in w) net) (fault_c (privileged_of n w) net) None) where
-  pub judged_stays : (v ≡ passed → ⊥) → v ≡ first_fault (fault_a n (off_in w) net) (fault_c (privileged_of n w) net) (fault_b rs net)
-  judged_stays h = e ∙ fault-stays (fault_a n (off_in w) net) (fault_c (privileged_of n w) net) (fault_b rs net) (λ q. h (e ∙ q))
+module _ (k : Context) (rs : List Required) (net : Network) {v : Verdict} (e : v ≡ first_fault (fault_a k.n.count (off_in k) net) (fault_c (privileged_of k) net) None) where
+  pub judged_stays : (v ≡ passed → ⊥) → v ≡ first_fault (fault_a k.n.count (off_in k) net) (fault_c (privileged_of k) net) (fault_b rs net)
+  judged_stays h = e ∙ fault-stays (fault_a k.n.count (off_in k) net) (fault_c (privileged_of k) net) (fault_b rs net) (λ q. h (e ∙ q))
 
-  pub judged_later : v ≡ passed → {b : Option Required} → b ≡ fault_b rs net → first_fault None None b ≡ first_fault (fault_a n (off_in w) net) (fault_c (privileged_of n w) net) (fault_b rs net)
-  judged_later h q = ap (first_fault None None) q ∙ fault-later (fault_a n (off_in w) net) (fault_c (privileged_of n w) net) (fault_b rs net) (sym e ∙ h)
+  pub judged_later : v ≡ passed → {b : Option Required} → b ≡ fault_b rs net → first_fault None None b ≡ first_fault (fault_a k.n.count (off_in k) net) (fault_c (privileged_of k) net) (fault_b rs net)
+  judged_later h q = ap (first_fault None None) q ∙ fault-later (fault_a k.n.count (off_in k) net) (fault_c (privileged_of k) net) (fault_b rs net) (sym e ∙ h)

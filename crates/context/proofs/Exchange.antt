@@ -1,14 +1,14 @@
--- Exchanging the two planes exchanges 0 and 1: the context of the complement.
-use mathlib.Core.Path.{◌≡◌, refl, ap, ap₂, ◌∙◌, subst}
+-- Exchanging the two planes exchanges 0 and 1: the planes of the complement.
+use mathlib.Core.Path.{◌≡◌, refl, ap, ap₂, ◌∙◌}
 use mathlib.Core.Bool.{Bool, true, false, cond, ◌||◌}
 use mathlib.Core.List.{List, ◌∷◌, map}
 use Prim.Native.Nat.{ℕ, zero, suc, ◌^◌}
 use lib.Dec.{T, eqb}
-use lib.ListN.{length}
 use Rattle.cube.specs.PointSet.{in_set}
 use Rattle.points.proofs.Masked.{true-false}
-use Rattle.context.specs.Places.{words, zeros_in, ones_in}
-use Rattle.context.specs.Context.{values_from, table_in, Planes}
+use Rattle.context.specs.declared.planes.Planes.{Planes}
+use Rattle.context.specs.Planes.{Apart}
+use Rattle.context.specs.Context.{values_from, table_in}
 
 -- 1 for 0, 0 for 1; a don't care stays.
 pub opposite : ℕ → ℕ
@@ -41,15 +41,14 @@ module _ (zeros ones : List ℕ) (apart : (x : ℕ) → T (in_set zeros x) → i
   values_exchanged x zero = refl
   values_exchanged x (suc m) = ap₂ (λ (v : ℕ) (l : List ℕ). v ∷ l) (other-value (in_set zeros x) (in_set ones x) (apart x)) (values_exchanged (suc x) m)
 
-module _ {n : ℕ} {w : List ℕ} (v : List ℕ) (z : zeros_in v ≡ ones_in w) (o : ones_in v ≡ zeros_in w) (p : Planes n w) where
-  pub exchanged_planes : length v ≡ words → Planes n v
-  exchanged_planes long =
-      record {
-        few = p.few;
-        long = long;
-        apart = λ x t. ap (λ (l : List ℕ). in_set l x) o ∙ other_plane (in_set (zeros_in w) x) (in_set (ones_in w) x) (p.apart x) (subst (λ (l : List ℕ). T (in_set l x)) z t);
-        past = λ x l. ap₂ (λ (a b : List ℕ). in_set a x || in_set b x) z o ∙ either (in_set (zeros_in w) x) (in_set (ones_in w) x) ∙ p.past x l;
-      }
+pub exchanged_planes : {n : ℕ} {zeros ones : List ℕ} → Apart n zeros ones → Apart n ones zeros
+exchanged_planes {n} {zeros} {ones} p =
+    record {
+      apart = λ x. other_plane (in_set zeros x) (in_set ones x) (p.apart x);
+      past = λ x l. either (in_set zeros x) (in_set ones x) ∙ p.past x l;
+    }
 
-  pub exchanged_table : table_in n v ≡ map opposite (table_in n w)
-  exchanged_table = ap₂ (λ (a b : List ℕ). values_from a b 0 (2 ^ n)) z o ∙ values_exchanged (zeros_in w) (ones_in w) p.apart 0 (2 ^ n)
+pub exchanged_table : (q p : Planes) → q.n.count ≡ p.n.count → q.zeros.words ≡ p.ones.words → q.ones.words ≡ p.zeros.words → table_in q ≡ map opposite (table_in p)
+exchanged_table q p n z o =
+    ap₂ (λ (a b : List ℕ). values_from a b 0 (2 ^ q.n.count)) z o ∙ ap (λ (m : ℕ). values_from p.ones.words p.zeros.words 0 (2 ^ m)) n
+    ∙ values_exchanged p.zeros.words p.ones.words p.are.apart 0 (2 ^ p.n.count)

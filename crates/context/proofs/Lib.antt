@@ -1,4 +1,3 @@
-pub mod Parts
 pub mod PlaneWord
 pub mod Values
 pub mod Exchange

@@ -1,3 +1,2 @@
-pub mod Places
 pub mod Planes
 pub mod Context

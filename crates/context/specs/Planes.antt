@@ -1,5 +1,5 @@
 -- The points of a table with a value.
-use Rattle.std.specs.Prelude.{◌≡◌, Bool, cond, ◌&&◌, List, ℕ, zero, suc, ◌+◌, ◌*◌, eqb, ltb, length}
+use Rattle.std.specs.Prelude.{◌≡◌, Bool, false, cond, ◌&&◌, ◌||◌, List, [], ◌∷◌, ℕ, ◌+◌, ◌*◌, ◌^◌, ◌≤◌, T, eqb, ltb, length}
 use Rattle.hazard.specs.Transition.{value}
 use Rattle.cube.specs.PointSet.{in_set}
 
@@ -7,12 +7,16 @@ use Rattle.cube.specs.PointSet.{in_set}
 abbrev pub valued : List ℕ → ℕ → ℕ → Bool
 valued f v x = ltb x (length f) && eqb (value f x) v
 
--- The word of m points from x on: point x + i is bit i, 1 where its value is v.
-unfoldable pub plane_word : List ℕ → ℕ → ℕ → ℕ → ℕ
-plane_word f v x zero = 0
-plane_word f v x (suc m) = plane_word f v (suc x) m * 2 + cond (eqb (value f x) v) 1 0
+-- The word of points: bit i is 1 where the value of point i is v.
+unfoldable pub plane_word : ℕ → List ℕ → ℕ
+plane_word v [] = 0
+plane_word v (y ∷ f) = plane_word v f * 2 + cond (eqb y v) 1 0
 
--- Sixteen words hold the set of the points with the value v.
+-- The words hold the set of the points with the value v.
 pub record Plane (f : List ℕ) (v : ℕ) (words : List ℕ) : Type 0 where
-  pub long : length words ≡ 16
   pub is : (x : ℕ) → in_set words x ≡ valued f v x
+
+-- The two sets are the planes of a table of n inputs: no point has both values, and no other number has one.
+pub record Apart (n : ℕ) (zeros ones : List ℕ) : Type 0 where
+  pub apart : (x : ℕ) → T (in_set zeros x) → in_set ones x ≡ false
+  pub past : (x : ℕ) → 2 ^ n ≤ x → (in_set zeros x || in_set ones x) ≡ false

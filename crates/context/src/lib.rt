@@ -1,6 +1,7 @@
-// The context of one output, in one run of words: its planes, its privileged cubes and their columns.
+// What is read of one output: its planes, and a context, which has the OFF-set and the privileged cubes with their columns.
 #![tactic(auto)]
 
-pub mod places;
+pub mod context;
+pub mod lowest;
 pub mod planes;
-pub mod value;
+pub mod unknown;

@@ -5,8 +5,9 @@ use Prim.Native.Nat.{ℕ, zero, suc, ◌+◌, ◌-◌, ◌/◌, ◌%◌, ◌^◌
 use native.Mathlib.Nat.{pow-suc, le_of_suc-le-suc, not-suc-le-zero, sub_self}
 use native.Mathlib.Numerals.{add-one}
 use native.Mathlib.Omega.{arith}
-use lib.ListN.{length, get_or, take, drop, length-take, length-drop, drop_of_length-le, set}
-use lib.Seq.{drop-cons, get_or-take, get_or-drop, paste, paste-suc}
+use lib.ListN.{length, get_or, take, drop, drop_of_length-le, set}
+use lib.Seq.{drop-cons, take_all}
+use Rattle.std.proofs.lemmas.List.{take_more, take_more_set}
 use lib.Bits.{bit_and, and_le_r}
 use lib.Pow.{pow_pos, pow_mono}
 use Rattle.hazard.specs.Cube.{bit}
@@ -37,18 +38,11 @@ stands_cons k l b y {m} {c} {ds} s ka kb lx ly e =
       is = rw (add-one, ka, kb, lx, ly) (ap (λ (t : List ℕ). digit b y ∷ t) s.is);
     }
 
--- A product's bytes from input j on.
-pub product-drop : (l : List ℕ) (at n j : ℕ) → j < n → at + n ≤ length l
-    → drop j (take n (drop at l)) ≡ get_or l (at + j) 0 ∷ drop (j + 1) (take n (drop at l))
-product-drop l at n j h g =
-    drop-cons (take n (drop at l)) j 0 (simp (length-take, length-drop) (omega arith))
-    ∙ rw (get_or-take, get_or-drop, add-one)
-
-pub stands_none : (l : List ℕ) (at n : ℕ) → Stands (n - n) (record { care = 0; value = 0 }) (drop n (take n (drop at l)))
-stands_none l at n =
+pub stands_none : (l : List ℕ) → Stands (length l - length l) (record { care = 0; value = 0 }) (drop (length l) l)
+stands_none l =
     record {
-      fits = record { small = pow_pos (n - n); clean = refl };
-      is = rw (sub_self, drop_of_length-le (take n (drop at l)) {i = n} (simp length-take (omega arith)));
+      fits = record { small = pow_pos (length l - length l); clean = refl };
+      is = rw (sub_self, drop_of_length-le l {i = length l} (omega arith));
     }
 
 pub stands_small : {m : ℕ} {c : Cube} {ds : List ℕ} → Stands m c ds → m ≤ 10 → (c.care < 2 ^ 15) × (c.value < 2 ^ 15)
@@ -57,15 +51,21 @@ stands_small {m} {c} s h =
     let v : c.value ≤ c.care = rw s.fits.clean at (and_le_r c.value c.care) in
     (omega (arith, p, s.fits.small), omega (arith, p, s.fits.small))
 
-pub product_step : (l : List ℕ) (at n i : ℕ) {c : Cube} → 0 < i → i ≤ n → at + n ≤ length l
-    → Stands (n - i + 1) c (get_or l (at + (i - 1)) 0 ∷ drop i (take n (drop at l))) → Stands (n - (i - 1)) c (drop (i - 1) (take n (drop at l)))
-product_step l at n i h g k s =
-    let e : n - (i - 1) ≡ n - i + 1 = omega arith in
+pub product_step : (l : List ℕ) (i : ℕ) {c : Cube} → 0 < i → i ≤ length l
+    → Stands (length l - i + 1) c (get_or l (i - 1) 0 ∷ drop i l) → Stands (length l - (i - 1)) c (drop (i - 1) l)
+product_step l i h g s =
+    let e : length l - (i - 1) ≡ length l - i + 1 = omega arith in
     let f : i - 1 + 1 ≡ i = omega arith in
-    rw (product-drop l at n (i - 1) (omega arith) k, e, f) s
+    rw (drop-cons l (i - 1) 0 (omega arith), ← add-one (i - 1), f, e) s
 
 -- A turn of the loop that writes the digits.
-pub write_step : (out : List ℕ) (at n care value i : ℕ) → i < n → at + n ≤ length out
-    → set (paste out at (digits_of n care value) i) (at + i) (digit (bit care i) (bit value i)) ≡ paste out at (digits_of n care value) (i + 1)
-write_step out at n care value i h g =
-    rw (← digit_at_lem n care value i h, add-one) (paste-suc out at (digits_of n care value) i 0 (omega arith) (rw length_digits h))
+pub write_step : (out : List ℕ) {n : ℕ} → length out ≡ n → (care value i : ℕ) → i < n → take i out ≡ take i (digits_of n care value)
+    → take (i + 1) (set out i (digit (bit care i) (bit value i))) ≡ take (i + 1) (digits_of n care value)
+write_step out {n} e care value i h s =
+    take_more_set out i _ (omega arith)
+    ∙ rw (s, ← digit_at_lem n care value i h) (sym (take_more (digits_of n care value) i 0 (rw length_digits h)))
+
+-- All of them written.
+pub written : (out : List ℕ) (n care value : ℕ) {i : ℕ} → length out ≡ n → n ≤ i → take i out ≡ take i (digits_of n care value) → out ≡ digits_of n care value
+written out n care value {i} e h s =
+    sym (take_all _ out (omega arith)) ∙ s ∙ take_all _ (digits_of n care value) (rw length_digits h)

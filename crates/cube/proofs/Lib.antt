@@ -12,3 +12,4 @@ pub mod Sweep
 pub mod ByWords
 pub mod Networks
 pub mod Positions
+pub mod LowestBit

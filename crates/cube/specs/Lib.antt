@@ -3,3 +3,4 @@ pub mod Next
 pub mod Entry
 pub mod PointSet
 pub mod WordMask
+pub mod Members

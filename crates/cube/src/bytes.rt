@@ -22,24 +22,25 @@ fn prepended(c: Cube, d: u8) -> Cube
     }
 }
 
-// The product whose bytes start at a place, read from its last input to its first.
-pub fn product_at(n: usize, bytes: &[u8], at: usize) -> Cube
-    requires { (n ≤ 10) × (at + n ≤ length bytes.now) × ((i : ℕ) → i < n → get_or bytes.now (at + i) 0 ≤ 2) }
-    ensures { Stands n result (take n (drop at bytes.now)) }
+// The product of the bytes, read from its last input to its first. By number, and not `iter().rev()`: the loop keeps a fact of the bytes from a
+// place on.
+pub fn product_of(bytes: &[u8]) -> Cube
+    requires { (length bytes.now ≤ 10) × ((i : ℕ) → i < length bytes.now → get_or bytes.now i 0 ≤ 2) }
+    ensures { Stands (length bytes.now) result bytes.now }
 {
     let mut c = Cube { care: 0, value: 0 };
-    for i in (0..n).rev() {
-        c = prepended(c, bytes[at + i]);
+    for i in (0..bytes.len()).rev() {
+        c = prepended(c, bytes[i]);
     }
     c
 }
 
-// The cube's digits, stored from a place on.
-pub fn write_product(n: usize, c: Cube, out: &mut [u8], at: usize)
-    requires { (n ≤ 10) × (at + n ≤ length out.old) }
-    ensures { out.new ≡ paste out.old at (cube_of n c) n }
+// The cube's digits, one for each byte.
+pub fn write_product(c: Cube, out: &mut [u8])
+    requires { length out.old ≤ 10 }
+    ensures { out.new ≡ cube_of (length out.old) c }
 {
-    for i in 0..n {
-        out[at + i] = digit_at(c, i) as u8;
+    for (i, byte) in out.iter_mut().enumerate() {
+        *byte = digit_at(c, i) as u8;
     }
 }

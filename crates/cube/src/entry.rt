@@ -20,9 +20,9 @@ const TRANSITION_BIT: usize = 48;
 pub fn pack(transition: u16, point: u16, c: Cube) -> u64
     ensures { Packed result transition point c.care c.value }
 {
-    let high = (transition as u64) * 65536 + (point as u64);
-    let low = (c.care as u64) * 65536 + (c.value as u64);
-    high * 4294967296 + low
+    let high = ((transition as u64) << TRANSITION_BIT) + ((point as u64) << POINT_BIT);
+    let low = ((c.care as u64) << CARE_BIT) + ((c.value as u64) << VALUE_BIT);
+    high + low
 }
 
 // The field of 16 bits that begins at a bit.
@@ -33,7 +33,7 @@ fn field_at(w: u64, bit: usize) -> u16
     ((w >> bit) % 65536) as u16
 }
 
-// Its fields.
+// Its fields. A reader each, and no conversion of the whole word: whoever reads a word wants one of them.
 pub fn transition_in(w: u64) -> u16
     ensures { result ≡ transition_in w }
 {

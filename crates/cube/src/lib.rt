@@ -2,8 +2,9 @@
 #![tactic(auto)]
 
 pub mod bytes;
-pub mod copy;
 pub mod entry;
+pub mod inputs;
 pub mod mask;
+pub mod member;
 pub mod point;
 pub mod word_mask;

@@ -3,14 +3,18 @@ ghost use Rattle.std.specs.Prelude.{◌≡◌, ℕ, ◌≤◌, ◌<◌, ◌^◌,
 ghost use Rattle.hazard.specs.Cube.{span, join, supercube, inside};
 ghost use Rattle.cube.specs.Mask.{digit_at, cube_of, Stands};
 
-// Bit i of care: input i has a literal. Bit i of value: that literal, 0 where there is none.
+use crate::inputs::Inputs;
+
+// Bit i of care: input i has a literal. Bit i of value: that literal, 0 where there is none. That they are masks of n inputs (`Clean`) is asked where
+// it counts and is no fact of the type: a cube is read out of any word. Inputs and points
+// are plain numbers, asked to be small, for a like reason: they come out of words, lists and bits.
 #[derive(Clone, Copy)]
 pub struct Cube {
     pub care: u16,
     pub value: u16,
 }
 
-// The digit of the cube at input i.
+// The digit of the cube at input i: a number and no enum, since it is a byte of a product and the place of a run of columns.
 pub fn digit_at(c: Cube, i: usize) -> usize
     requires { i < 16 }
     ensures { (result ≡ digit_at c i) × (result < 3) }
@@ -21,7 +25,7 @@ pub fn digit_at(c: Cube, i: usize) -> usize
     ((c.value >> i) % 2) as usize
 }
 
-// The cube c lies inside d.
+// The cube c lies inside d. No `PartialOrd`, which wants cubes inside each other to be equal: values without a literal are not looked at.
 pub fn lies_inside(c: Cube, d: Cube) -> bool
     ensures { (n : ℕ) → d.care < 2 ^ n → result ≡ inside (cube_of n c) (cube_of n d) }
 {
@@ -29,18 +33,19 @@ pub fn lies_inside(c: Cube, d: Cube) -> bool
 }
 
 // [P,Q].
-pub fn span_of(n: usize, p: u16, q: u16) -> Cube
-    requires { (n ≤ 10) × (p < 2 ^ n) × (q < 2 ^ n) }
-    ensures { Stands n result (span n p q) }
+pub fn span_of(n: Inputs, p: u16, q: u16) -> Cube
+    requires { (p < 2 ^ n.count) × (q < 2 ^ n.count) }
+    ensures { Stands n.count result (span n.count p q) }
 {
-    let care = ((1u16 << n) - 1) ^ (p ^ q);
+    let care = ((1u16 << n.count) - 1) ^ (p ^ q);
     Cube {
         care,
         value: p & care,
     }
 }
 
-// The smallest cube around a cube and a point.
+// The smallest cube around a cube and a point. Not by `supercube_of`: as a cube a point has as many literals as there are inputs, which are not
+// known here.
 pub fn joined(c: Cube, x: u16) -> Cube
     ensures { (n : ℕ) → c.care < 2 ^ n → Stands n result (join (cube_of n c) x) }
 {

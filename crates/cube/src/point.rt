@@ -4,6 +4,7 @@ ghost use Rattle.hazard.specs.Cube.{bit, flip, has};
 ghost use Rattle.cube.specs.Mask.{cube_of, Clean};
 ghost use Rattle.cube.specs.Next.{Next};
 
+use crate::inputs::Inputs;
 use crate::mask::Cube;
 
 // The value of input i at x.
@@ -24,9 +25,9 @@ pub fn flipped(x: u16, i: usize) -> u16
 
 // The point of the cube after x, or a number past the last point. The literals are all 1 in `x | care`, so the 1 that is added carries
 // over them.
-pub fn next(n: usize, c: Cube, x: usize) -> usize
-    requires { (n ≤ 10) × Clean n c × (x < 2 ^ n) × T (has (cube_of n c) x) }
-    ensures { Next n (cube_of n c) x result }
+pub fn next(n: Inputs, c: Cube, x: usize) -> usize
+    requires { Clean n.count c × (x < 2 ^ n.count) × T (has (cube_of n.count c) x) }
+    ensures { Next n.count (cube_of n.count c) x result }
 {
     let care = c.care as usize;
     let y = (x | care) + 1;

@@ -1,7 +1,7 @@
 // What is printed of the minimiser's answer.
 use std::fmt;
+use testing::calls::Written;
 use testing::marks::is_marked;
-use testing::products::{Products, in_sequence};
 
 // Whether a part of the buffer still has what was in it before the call.
 #[derive(Clone, Copy)]
@@ -25,24 +25,23 @@ impl<'a> fmt::Display for Kept<'a> {
 
 // How many products, their bytes where they are few, and whether several are in sequence.
 #[derive(Clone, Copy)]
-pub struct Written<'a> {
-    pub n: usize,
-    pub count: usize,
-    pub bytes: &'a [u8],
-}
+pub struct WrittenText<'a>(pub Written<'a>);
 
-impl<'a> fmt::Display for Written<'a> {
+impl<'a> fmt::Display for WrittenText<'a> {
     fn fmt<W: fmt::Write>(&self, f: &mut fmt::Formatter<W>) -> fmt::Result {
-        let Written { n, count, bytes } = *self;
+        let Written {
+            count,
+            products,
+            ..
+        } = self.0;
         write!(f, "products {count}")?;
         if count <= 5 {
-            let products = Products { n, bytes };
             write!(f, "{products}")?;
         }
         if count <= 1 {
             return Ok(());
         }
-        if in_sequence(n, bytes) {
+        if products.in_sequence() {
             write!(f, ", in sequence")
         } else {
             write!(f, ", OUT OF SEQUENCE")

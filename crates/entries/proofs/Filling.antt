@@ -6,7 +6,7 @@ use native.Mathlib.Numerals.{add-one}
 use native.Mathlib.Omega.{arith}
 use native.Mathlib.Decide.{ℕ_discrete, dec_lt}
 use lib.ListN.{length, take, set, length-append, length-take, length-set, length-map, get_or-eq_default}
-use lib.Seq.{take_all, take_at, take-suc-set, get_or-set_same, get_or-set_other}
+use lib.Seq.{take_all, take_at, take-suc-set, get_or-set_same, get_or-set_other, set_out}
 use Rattle.std.specs.List.{AllByRecursion}
 use Rattle.cube.specs.Entry.{CleanWord}
 use Rattle.cube.proofs.Word.{zero-clean}
@@ -22,7 +22,7 @@ module _ {A : Type 0} {n : ℕ} {read : ℕ → A} where
   pub stored_none : (out : List ℕ) (k : ℕ) → Stored n read out out k k []
   stored_none out k = record { is = sym (ap (take (length out)) (append-nil _) ∙ take_all (length out) (map read (take k out)) (omega (arith, length-map (take k out) read, length-take k out))); size = omega arith; long = refl; clean = λ h. h }
 
-  pub stored_one : (out : List ℕ) (k w : ℕ) → k < length out → CleanWord n w → {a : A} → read w ≡ a → Stored n read out (set out k w) k (k + 1) (a ∷ [])
+  stored_one : (out : List ℕ) (k w : ℕ) → k < length out → CleanWord n w → {a : A} → read w ≡ a → Stored n read out (set out k w) k (k + 1) (a ∷ [])
   stored_one out k w h u {a} e =
       record {
         is = rw (add-one k, take-suc-set out k w h, map-append, length-set) (ap (λ (b : A). map read (take k out) ++ (b ∷ [])) e ∙ sym (take_all (length out) (map read (take k out) ++ (a ∷ [])) (omega (arith, length-append (map read (take k out)) (a ∷ []), length-map (take k out) read, length-take k out))));
@@ -32,7 +32,7 @@ module _ {A : Type 0} {n : ℕ} {read : ℕ → A} where
       }
 
   -- Past the last word nothing is stored.
-  pub stored_past : (out : List ℕ) (k : ℕ) → length out ≤ k → (a : A) → Stored n read out out k (k + 1) (a ∷ [])
+  stored_past : (out : List ℕ) (k : ℕ) → length out ≤ k → (a : A) → Stored n read out out k (k + 1) (a ∷ [])
   stored_past out k h a =
       record {
         is = rw (take_all (k + 1) out (omega arith), take_all k out h) (sym (take_at (map read out) (a ∷ []) (length out) (length-map out read)));
@@ -40,6 +40,14 @@ module _ {A : Type 0} {n : ℕ} {read : ℕ → A} where
         long = refl;
         clean = λ g i l. elim (dec_lt i k) [ yes q ↦ g i q | no q ↦ rw (get_or-eq_default out 0 {n = i} (omega (arith, q))) (zero-clean n) ];
       }
+
+  -- A word at the next place, if there is room.
+  pub stored_word : (out : List ℕ) (k w : ℕ) → CleanWord n w → {a : A} → read w ≡ a → Stored n read out (set out k w) k (k + 1) (a ∷ [])
+  stored_word out k w u {a} e =
+      elim (dec_lt k (length out)) [
+        | yes h ↦ stored_one out k w h u e
+        | no h ↦ let l : length out ≤ k = omega arith in rw (set_out out k w l) (stored_past out k l a)
+      ]
 
   pub stored_as : {before after : List ℕ} {k r : ℕ} {l m : List A} → l ≡ m → Stored n read before after k r l → Stored n read before after k r m
   stored_as e s = rw (← e) s
@@ -83,6 +91,12 @@ storing_start {n = n} read entry out from b = record { below = b; filling = fill
 module _ {A : Type 0} {n : ℕ} {read entry : ℕ → A} {before after : List ℕ} {from k : ℕ} {left whole : List ℕ} (s : Storing n read entry before after from k left whole) {x : ℕ} {rest : List ℕ} (e : left ≡ x ∷ rest) where
   all_below : AllByRecursion (λ y. y < 2 ^ n) (x ∷ rest)
   all_below = subst (AllByRecursion (λ y. y < 2 ^ n)) e s.below
+
+  pub storing_below : x < 2 ^ n
+  storing_below = all_below.0
+
+  pub storing_room : (most : ℕ) → from + length whole ≤ most → k < most
+  storing_room most h = omega (arith, filling_room s.filling most (omega (arith, h, length-map whole entry)), ap length (ap (map entry) e))
 
   pub storing_more : {after' : List ℕ} {r : ℕ} → Stored n read after after' k r (entry x ∷ []) → Storing n read entry before after' from r rest whole
   storing_more t = record { below = all_below.1; filling = filling_more s.filling t (ap (map entry) e) }

@@ -1,4 +1,5 @@
-// Required cubes as words, stored one after another.
+// Words stored one after another, and required cubes as such words.
 #![tactic(auto)]
 
+pub mod required;
 pub mod store;

@@ -1,10 +1,11 @@
 -- The definitions' answers, for the code's.
-use Rattle.std.specs.Prelude.{◌≡◌, List, ℕ, ◌≤◌}
+use Rattle.std.specs.Prelude.{◌≡◌, ℕ, ◌≤◌}
 use Rattle.hazard.specs.Cube as digits
 use Rattle.hazard.specs.Sets.{Required}
 use Rattle.hazard.specs.Refusal.{Refusal, growth_refusal}
 use Rattle.hazard.specs.Growth as spec
 use Rattle.cube.specs.Mask.{cube_of, Clean}
+use Rattle.context.specs.declared.context.Context.{Context}
 use Rattle.context.specs.Context.{off_in, privileged_of}
 use Rattle.expand.specs.declared.growth.Grown.{Grown}
 use Rattle.expand.specs.declared.growth.Grown.TheVariants.{Legal, Blocked}
@@ -27,8 +28,8 @@ abbrev pub LegalClean : ℕ → Grown → Type 0
 LegalClean n (Legal c s) = Clean n c
 LegalClean n (Blocked z s) = Unit {0}
 
--- The answer r of the growth of a cube, by the context with the words w.
-pub record Grows (n : ℕ) (w : List ℕ) (c : digits.Cube) (r : Grown) : Type 0 where
-  pub is : grown_of n r ≡ spec.grow n (off_in w) (privileged_of n w) c
-  pub few : spec.steps (grown_of n r) ≤ n
-  pub clean : LegalClean n r
+-- The answer r of the growth of a cube, by a context.
+pub record Grows (k : Context) (c : digits.Cube) (r : Grown) : Type 0 where
+  pub is : grown_of k.n.count r ≡ spec.grow k.n.count (off_in k) (privileged_of k) c
+  pub few : spec.steps (grown_of k.n.count r) ≤ k.n.count
+  pub clean : LegalClean k.n.count r

@@ -1,15 +1,16 @@
 // Supercube-dhf: a cube grown until it is legal or blocked.
 ghost use Rattle.cube.specs.Mask.{cube_of, Clean};
-ghost use Rattle.legality.specs.Ready.{Ready};
 ghost use Rattle.expand.specs.Answer.{Grows};
 
-use context::value::lowest_zero;
+use context::context::Context;
+use context::lowest::lowest_zero;
 use cube::entry::point_in;
 use cube::mask::{Cube, joined};
 use legality::meeting::first_illegal;
-use points::walk::walk_over;
+use points::over::walk_over;
 
-// How growth ends: legal, with the cube and the steps taken, or blocked, with the lowest zero and the steps taken.
+// How growth ends: legal, with the cube and the steps taken, or blocked, with the lowest zero and the steps taken. No `Result`: both ends are
+// answers, and both have steps.
 #[derive(Clone, Copy)]
 pub enum Grown {
     Legal(Cube, u16),
@@ -18,25 +19,24 @@ pub enum Grown {
 
 // A cube that contains no zero, but intersects privileged cubes illegally, takes in the start point of the first of them, again and again.
 // Each step frees an input, so n steps are enough; how it ends is the answer.
-pub fn grow(n: usize, context: &[u64], c: Cube) -> Grown
-    requires ready { Ready n context.now }
-    requires clean { Clean n c }
-    ensures { Grows n context.now (cube_of n c) result }
+pub fn grow(context: &Context, c: Cube) -> Grown
+    requires clean { Clean context.now.n.count c }
+    ensures { Grows context.now (cube_of context.now.n.count c) result }
 {
     let mut cube = c;
     let mut steps: u16 = 0;
-    // Not a `for`: the steps are part of the answer, after the loop too.
-    while (steps as usize) < n {
-        if let Some(z) = lowest_zero(context, walk_over(n, cube)) {
+    // Not a `for`: the answer carries the steps after the loop too, where they would have to be written again, as n.
+    while (steps as usize) < context.n.count {
+        if let Some(z) = lowest_zero(&context.off, walk_over(context.n, cube)) {
             return Grown::Blocked(z, steps);
         }
-        let Some(w) = first_illegal(n, context, cube) else {
+        let Some(w) = first_illegal(context, cube) else {
             return Grown::Legal(cube, steps);
         };
         cube = joined(cube, point_in(w));
         steps += 1;
     }
-    match lowest_zero(context, walk_over(n, cube)) {
+    match lowest_zero(&context.off, walk_over(context.n, cube)) {
         Some(z) => Grown::Blocked(z, steps),
         None => Grown::Legal(cube, steps),
     }

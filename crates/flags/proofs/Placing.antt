@@ -15,7 +15,7 @@ use Rattle.hazard.proofs.Point.{flip-same, flip-other}
 use Rattle.hazard.proofs.Test.{T_and, is, isnt, eqb_of, bool_ext}
 use Rattle.cube.specs.PointSet.{in_set}
 use Rattle.cube.proofs.WordMask.{no_bit}
-use Rattle.rows.proofs.Members.{lowest-few, lowest_set}
+use Rattle.cube.proofs.LowestBit.{lowest-few, lowest_set}
 use Rattle.flags.specs.Rows.{in_word}
 
 -- No row is past a set's words.

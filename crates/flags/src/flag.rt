@@ -6,22 +6,23 @@ ghost use Rattle.rows.specs.Sets.{Fits};
 ghost use Rattle.flags.specs.Flag.{Flagging};
 
 use crate::put::put;
+use cube::inputs::Inputs;
 use cube::mask::Cube;
 use rows::split::split;
 
 // A product has come: the required cubes in it are flagged. `uncovered` is the set of those not flagged yet, so that the others are not
 // looked at again; those in the product go over from it into `taken`. `columns` has the required cubes for its rows.
 pub fn flag_product(
-    n: usize,
+    n: Inputs,
     columns: &[u64],
     c: Cube,
     uncovered: &mut [u64],
     taken: &mut [u64],
     flags: &mut [bool],
 )
-    requires fits { (n ≤ 10) × Fits columns.now uncovered.old × (length taken.old ≡ length uncovered.old) }
+    requires fits { Fits columns.now uncovered.old × (length taken.old ≡ length uncovered.old) }
     requires room { (i : ℕ) → T (in_set uncovered.old i) → i < length flags.old }
-    ensures { Flagging (λ i. allowed_to columns.now i c n) uncovered.old uncovered.new taken.new flags.old flags.new }
+    ensures { Flagging (λ i. allowed_to columns.now i c n.count) uncovered.old uncovered.new taken.new flags.old flags.new }
 {
     split(n, columns, c, uncovered, taken);
     put(flags, taken, true);

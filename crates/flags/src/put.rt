@@ -4,7 +4,7 @@ ghost use Rattle.cube.specs.PointSet.{in_set};
 ghost use Rattle.rows.specs.Sets.{most_words};
 ghost use Rattle.flags.specs.Rows.{in_word};
 
-use rows::member::Members;
+use cube::member::Members;
 
 // The value at the rows of word b of a set.
 fn put_word<V: Copy>(places: &mut [V], b: usize, word: u64, value: V)

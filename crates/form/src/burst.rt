@@ -6,26 +6,27 @@ ghost use Rattle.hazard.specs.Transition.{count};
 ghost use Rattle.hazard.specs.Refusal.{bursts_check};
 ghost use Rattle.refusal.specs.Answer.{refused_by};
 
+use cube::inputs::Inputs;
 use hazard::limits::MOST_MOVING;
 use kinds::each::check_each;
+use kinds::transition::Transition;
 use refusal::refusal::Refusal;
 
-// More inputs move from a to b than the limit. Only n inputs are counted.
-fn is_wide(n: usize, a: u16, b: u16) -> bool
-    requires { n ≤ 10 }
-    ensures { result ≡ ltb most_moving (distance n a b) }
+// More inputs move than the limit. Only n inputs are counted.
+fn is_wide(n: Inputs, ends: Transition) -> bool
+    ensures { result ≡ ltb most_moving (distance n.count ends.start ends.end) }
 {
-    let moving = (a ^ b) % (1u16 << n);
+    let moving = (ends.start ^ ends.end) % (1u16 << n.count);
     MOST_MOVING < u16::count_ones(moving)
 }
 
 // 14: more inputs move than the limit; the first such transition.
-pub fn check_bursts(n: usize, transitions: &[u16]) -> Result<(), Refusal>
-    requires { (n ≤ 10) × (count transitions.now ≤ 64) }
-    ensures { refused_by result ≡ bursts_check n transitions.now }
+pub fn check_bursts(n: Inputs, list: &[u16]) -> Result<(), Refusal>
+    requires { count list.now ≤ 64 }
+    ensures { refused_by result ≡ bursts_check n.count list.now }
 {
-    check_each(transitions, |transition, a, b| {
-        if is_wide(n, a, b) {
+    check_each(list, |transition, ends| {
+        if is_wide(n, ends) {
             return Err(Refusal::WideBurst { transition });
         }
         Ok(())

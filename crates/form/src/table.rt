@@ -4,14 +4,14 @@ ghost use Rattle.hazard.specs.Search.{first_of};
 ghost use Rattle.hazard.specs.Refusal.{length_check, bytes_check, table_checks};
 ghost use Rattle.refusal.specs.Answer.{refused_by};
 
+use cube::inputs::Inputs;
 use refusal::refusal::Refusal;
 
 // 2: the table's length is not 2^n.
-pub fn check_length(n: usize, table: &[u8]) -> Result<(), Refusal>
-    requires { n ≤ 10 }
-    ensures { refused_by result ≡ length_check n table.now }
+pub fn check_length(n: Inputs, table: &[u8]) -> Result<(), Refusal>
+    ensures { refused_by result ≡ length_check n.count table.now }
 {
-    if table.len() != 1 << n {
+    if table.len() != 1 << n.count {
         return Err(Refusal::TableLength);
     }
     Ok(())
@@ -29,9 +29,8 @@ pub fn check_bytes(table: &[u8]) -> Result<(), Refusal>
 }
 
 // Both.
-pub fn table_checks(n: usize, table: &[u8]) -> Result<(), Refusal>
-    requires { n ≤ 10 }
-    ensures { refused_by result ≡ first_of (table_checks n table.now) }
+pub fn table_checks(n: Inputs, table: &[u8]) -> Result<(), Refusal>
+    ensures { refused_by result ≡ first_of (table_checks n.count table.now) }
 {
     check_length(n, table)?;
     check_bytes(table)

@@ -19,7 +19,7 @@ use Rattle.hazard.specs.Implicant.{illegal, lowest_zero}
 use Rattle.hazard.specs.Cover.{Network, product_at, WellFormed, covered, HazardFreeCover}
 use Rattle.hazard.specs.HazardFree.{HazardFree}
 use Rattle.hazard.specs.Refusal.{Refusal, product_refusal, input_checks, Accepted}
-use Rattle.hazard.specs.Verdict.{cut, products, products_check, network_checks, verifier_checks, Verdict, refused, passed, holds_zero, intersects, uncovered, fault_a, fault_c, fault_b, first_fault, fault, verdict, Verified, fields_of}
+use Rattle.hazard.specs.Verdict.{cut, products, products_check, digits_check, network_checks, verifier_checks, Verdict, refused, passed, holds_zero, intersects, uncovered, fault_a, fault_c, fault_b, first_fault, fault, verdict, Verified, fields_of}
 use Rattle.hazard.proofs.Test.{T_and, no_or, sure}
 use Rattle.hazard.proofs.Rules.{lets}
 use Rattle.hazard.proofs.Search.{none-some, first-none, none_first, find_none, place_none, first_of-none, entries, first_of-append, First, lowest, first-is, Find, hit, find-is, Earlier, Place, placed, place_is}
@@ -206,6 +206,12 @@ products_fit n bytes e =
 pub products-few : (n : ℕ) (bytes : List ℕ) → products_check n bytes ≡ None → length (products n bytes) ≤ most_products
 products-few n bytes e = omega (arith, products-length n bytes, (products_fit n bytes e).1)
 
+-- Where check 12 finds nothing, each product is one.
+pub digits_formed : (n : ℕ) (bytes : List ℕ) → digits_check n (products n bytes) ≡ None → WellFormed n (products n bytes)
+digits_formed n bytes e = at_places (λ (p : Cube). T (is_product n p)) (products n bytes) (λ j l.
+    sure (is_product n (product_at (products n bytes) j)) (first-none (λ i. not (is_product n (product_at (products n bytes) i))) 0 (length (products n bytes))
+    ((map-eq-none_iff (λ i. product_refusal 12 i) (first (λ i. not (is_product n (product_at (products n bytes) i))) 0 (length (products n bytes)))).0 e) j (omega arith) (omega arith)))
+
 module _ (n : ℕ) (f ts bytes : List ℕ) where
   -- The verifier's checks refuse nothing.
   abbrev pub Checked : Type 0
@@ -216,10 +222,7 @@ module _ (n : ℕ) (f ts bytes : List ℕ) where
   checked_accepted e = ((first_of-append (input_checks n f ts) (network_checks n bytes)).0 e).0
 
   pub checked_well_formed : Checked → WellFormed n (products n bytes)
-  checked_well_formed e = at_places (λ (p : Cube). T (is_product n p)) (products n bytes) (λ j l.
-      sure (is_product n (product_at (products n bytes) j)) (first-none (λ i. not (is_product n (product_at (products n bytes) i))) 0 (length (products n bytes))
-      ((map-eq-none_iff (λ i. product_refusal 12 i) (first (λ i. not (is_product n (product_at (products n bytes) i))) 0 (length (products n bytes)))).0
-      (first_of-none (network_checks n bytes) ((first_of-append (input_checks n f ts) (network_checks n bytes)).0 e).1 (search entries))) j (omega arith) (omega arith)))
+  checked_well_formed e = digits_formed n bytes (first_of-none (network_checks n bytes) ((first_of-append (input_checks n f ts) (network_checks n bytes)).0 e).1 (search entries))
 
   -- The verdict is `passed` exactly if the checks refuse nothing and the network is hazard-free.
   pub verdict-passed : (verdict n f ts bytes ≡ passed) ↔ (Checked × HazardFree n f ts (products n bytes))

@@ -1,7 +1,6 @@
 -- The classical theory of two-level logic, which knows no transitions: what a problem with an empty list asks.
-use Rattle.std.specs.Prelude.{◌≡◌, ◌↔◌, ◌≢◌, Bool, true, false, not, ◌&&◌, ℕ, ◌*◌, ◌<◌, ◌^◌, T, eqb, ltb, length, get_or, set, drop}
+use Rattle.std.specs.Prelude.{◌≡◌, ◌↔◌, ◌≢◌, Bool, true, false, not, ◌&&◌, ℕ, ◌*◌, ◌<◌, ◌^◌, T, eqb, ltb, length, get_or, set, drop, Option, None, Some}
 use mathlib.Core.List.{List, [], ◌∷◌, ◌++◌, Memᴰ}
-use Rattle.std.specs.Prelude.{Option, None, Some}
 use Rattle.hazard.specs.Search.{first, those, first_of}
 use Rattle.hazard.specs.Cube.{Cube, is_product, has}
 use Rattle.hazard.specs.Transition.{value, off}

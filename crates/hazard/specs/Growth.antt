@@ -1,6 +1,5 @@
 -- Supercube-dhf (document 01: growing a required cube).
-use Rattle.std.specs.Prelude.{Bool, List, ℕ, zero, suc}
-use Rattle.std.specs.Prelude.{None, Some}
+use Rattle.std.specs.Prelude.{Bool, List, ℕ, zero, suc, None, Some}
 use Rattle.hazard.specs.Search.{find}
 use Rattle.hazard.specs.Cube.{Cube, join}
 use Rattle.hazard.specs.Sets.{Privileged}

@@ -1,7 +1,6 @@
 -- Dhf-implicants (document 01: legal products) and dhf-primes (maximal legal products).
 -- The OFF-set is a test on points and the privileged cubes are a list: nothing here looks at a table.
-use Rattle.std.specs.Prelude.{Bool, not, ◌&&◌, List, ℕ, ◌^◌, ◌<◌, T}
-use Rattle.std.specs.Prelude.{Option}
+use Rattle.std.specs.Prelude.{Bool, not, ◌&&◌, List, ℕ, ◌^◌, ◌<◌, T, Option}
 use Rattle.hazard.specs.Search.{found, first, find}
 use Rattle.hazard.specs.Cube.{Cube, is_product, has, meets, inside}
 use Rattle.hazard.specs.Sets.{Privileged}

@@ -1,7 +1,6 @@
 -- The minimiser: its refusals, and what its network satisfies.
-use Rattle.std.specs.Prelude.{◌≡◌, ◌↔◌, Bool, ℕ, ◌*◌, ◌≤◌, ◌<◌, T, ltb, length, drop}
+use Rattle.std.specs.Prelude.{◌≡◌, ◌↔◌, Bool, ℕ, ◌*◌, ◌≤◌, ◌<◌, T, ltb, length, drop, Option, None, Some}
 use mathlib.Core.List.{List, [], ◌∷◌, ◌++◌, map, Memᴰ}
-use Rattle.std.specs.Prelude.{Option, None, Some}
 use Rattle.hazard.specs.Search.{first_of}
 use Rattle.hazard.specs.Cube.{Cube, is_product}
 use Rattle.hazard.specs.Transition.{off, count}

@@ -1,6 +1,5 @@
 -- A set piece: a problem, what is asked of it and what the answer is; and what it says.
-use Rattle.std.specs.Prelude.{◌≡◌, Bool, List, [], ℕ, ◌*◌, length}
-use Rattle.std.specs.Prelude.{None, Some}
+use Rattle.std.specs.Prelude.{◌≡◌, Bool, List, [], ℕ, ◌*◌, length, None, Some}
 use Rattle.hazard.specs.Search.{first_of}
 use Rattle.hazard.specs.Transition.{start, end}
 use Rattle.hazard.specs.Sets.{required}

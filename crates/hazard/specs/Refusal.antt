@@ -1,6 +1,5 @@
 -- What goes back when work is declined, and the input rules: checks 1 to 8, and 14 after 5.
-use Rattle.std.specs.Prelude.{◌≡◌, Bool, cond, not, ◌||◌, List, [], ◌∷◌, ◌++◌, ℕ, ◌%◌, ◌^◌, eqb, leb, ltb, length}
-use Rattle.std.specs.Prelude.{Option, None, Some, option_map}
+use Rattle.std.specs.Prelude.{◌≡◌, Bool, cond, not, ◌||◌, List, [], ◌∷◌, ◌++◌, ℕ, ◌%◌, ◌^◌, eqb, leb, ltb, length, Option, None, Some, option_map}
 use Rattle.hazard.specs.Limits.{most_moving, most_required}
 use Rattle.hazard.specs.Search.{first, first_place, first_of}
 use Rattle.hazard.specs.Cube.{distance}

@@ -1,6 +1,5 @@
 -- Searches. Every "lowest", "first" and "in order" of the other definitions is one of these.
-use Rattle.std.specs.Prelude.{Bool, true, false, List, [], ◌∷◌, ℕ, zero, suc}
-use Rattle.std.specs.Prelude.{Option, None, Some}
+use Rattle.std.specs.Prelude.{Bool, true, false, List, [], ◌∷◌, ℕ, zero, suc, Option, None, Some}
 
 -- Something was found.
 abbrev pub found : {A : Type 0} → Option A → Bool

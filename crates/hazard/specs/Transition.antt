@@ -1,6 +1,5 @@
 -- The table, and the transitions (document 01: changes) with their four kinds.
-use Rattle.std.specs.Prelude.{Bool, true, false, not, ◌&&◌, List, ℕ, ◌+◌, ◌-◌, ◌*◌, ◌/◌, ◌^◌, eqb, length, get_or}
-use Rattle.std.specs.Prelude.{Option}
+use Rattle.std.specs.Prelude.{Bool, true, false, not, ◌&&◌, List, ℕ, ◌+◌, ◌-◌, ◌*◌, ◌/◌, ◌^◌, eqb, length, get_or, Option}
 use Rattle.hazard.specs.Search.{found, first}
 use Rattle.hazard.specs.Cube.{bit, flip, has, span}
 

@@ -1,6 +1,5 @@
 -- The verifier's verdict (document 01: the marker's).
-use Rattle.std.specs.Prelude.{◌≡◌, ◌↔◌, Bool, not, ◌||◌, List, [], ◌∷◌, ◌++◌, ℕ, zero, suc, ◌/◌, ◌%◌, eqb, ltb, length, take, drop}
-use Rattle.std.specs.Prelude.{Option, None, Some, option_map}
+use Rattle.std.specs.Prelude.{◌≡◌, ◌↔◌, Bool, not, ◌||◌, List, [], ◌∷◌, ◌++◌, ℕ, zero, suc, ◌/◌, ◌%◌, eqb, ltb, length, take, drop, Option, None, Some, option_map}
 use Rattle.hazard.specs.Limits.{most_products}
 use Rattle.hazard.specs.Search.{first, first_place, find, first_of}
 use Rattle.hazard.specs.Cube.{is_product}

@@ -2,7 +2,6 @@
 use Rattle.std.specs.Prelude.{cond, List, ℕ, ◌+◌, ◌*◌}
 use Rattle.hazard.specs.Transition as spec
 use Rattle.cube.specs.PointSet.{in_set}
-use Rattle.context.specs.Places.{ones_in}
 use Rattle.kinds.specs.declared.kind.Kind.{Kind}
 use Rattle.kinds.specs.declared.kind.Kind.TheVariants.{Low, Rise, Fall, High}
 
@@ -12,10 +11,10 @@ kind_is Rise = spec.rise
 kind_is Fall = spec.fall
 kind_is High = spec.high
 
--- 1 where the point is in the plane of 1, and 0 elsewhere.
+-- 1 where the point is in the set of the ones, and 0 elsewhere.
 abbrev pub one_at : List ℕ → ℕ → ℕ
-one_at w x = cond (in_set (ones_in w) x) 1 0
+one_at ones x = cond (in_set ones x) 1 0
 
 -- The kind of the transition from a to b, where both have a value.
 abbrev pub kind_in : List ℕ → ℕ → ℕ → spec.Kind
-kind_in w a b = spec.kind_of (2 * one_at w a + one_at w b)
+kind_in ones a b = spec.kind_of (2 * one_at ones a + one_at ones b)

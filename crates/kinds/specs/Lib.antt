@@ -1,3 +1,4 @@
 pub mod Codes
 pub mod Each
+pub mod Listed
 pub mod Ready

@@ -1,22 +1,6 @@
-// The ends of the transitions: the list holds two numbers for each.
+// The ends of a transition: a list holds two numbers for each.
 ghost use Rattle.std.specs.Prelude.{◌≡◌, ◌<◌};
 ghost use Rattle.hazard.specs.Transition.{start, end, count};
-
-// Where transition t starts.
-pub fn start_of(transitions: &[u16], t: usize) -> u16
-    requires { t < count transitions.now }
-    ensures { result ≡ start transitions.now t }
-{
-    transitions[2 * t]
-}
-
-// Where transition t ends.
-pub fn end_of(transitions: &[u16], t: usize) -> u16
-    requires { t < count transitions.now }
-    ensures { result ≡ end transitions.now t }
-{
-    transitions[2 * t + 1]
-}
 
 // A transition: the point where it starts, and the one where it ends.
 #[derive(Clone, Copy)]
@@ -25,13 +9,13 @@ pub struct Transition {
     pub end: u16,
 }
 
-// Transition t of the list.
-pub fn transition_at(transitions: &[u16], t: usize) -> Transition
-    requires { t < count transitions.now }
-    ensures { (result.start ≡ start transitions.now t) × (result.end ≡ end transitions.now t) }
+// Transition t of a list.
+pub fn transition_at(list: &[u16], t: usize) -> Transition
+    requires { t < count list.now }
+    ensures { (result.start ≡ start list.now t) × (result.end ≡ end list.now t) }
 {
     Transition {
-        start: start_of(transitions, t),
-        end: end_of(transitions, t),
+        start: list[2 * t],
+        end: list[2 * t + 1],
     }
 }

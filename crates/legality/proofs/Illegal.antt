@@ -7,7 +7,7 @@ use native.Mathlib.Numerals.{add-one}
 use native.Mathlib.Omega.{arith}
 use lib.Bits.{bit_and, bit_xor}
 use lib.Dec.{eqb, ltb, ltb→lt}
-use lib.ListN.{length, get_or}
+use lib.ListN.{length, get_or, length-take}
 use Rattle.hazard.specs.Cube.{bit}
 use Rattle.hazard.specs.Implicant.{illegal}
 use Rattle.hazard.proofs.Test.{so}
@@ -17,9 +17,9 @@ use Rattle.cube.specs.declared.mask.Cube.{Cube}
 use Rattle.cube.proofs.WordMask.{both_test, less_test}
 use Rattle.columns.proofs.Relating.{and-true, and_assoc}
 use Rattle.blocks.specs.Blocks.{stride, run_of, word_at, allowed, allowed_to}
-use Rattle.context.specs.Places.{privileged_at, count_in, privileged_words, meets_in, starts_in}
-use Rattle.context.proofs.Parts.{part_length}
-use Rattle.legality.specs.Ready.{Ready, Rows}
+use Rattle.context.specs.declared.context.Context.{Context}
+use Rattle.context.specs.Context.{privileged_words}
+use Rattle.legality.specs.Rows.{Rows}
 
 -- r is the set of the first `count` rows, as far as they allow the digits of the inputs below i.
 pub record Narrowed (columns : List ℕ) (c : Cube) (count i r : ℕ) : Type 0 where
@@ -48,16 +48,16 @@ column_step {columns} {c} {i = i} {at = at} long e f t =
     let p : at ≡ run_of 1 i (digit_at c i) + 0 = omega (arith, e, f) in
     narrowed_step t (ap (λ (q : ℕ). get_or columns q 0) p ∙ ap (λ (words : ℕ). get_or columns (run_of words i (digit_at c i) + 0) 0) one)
 
-module _ {n : ℕ} {w : List ℕ} (s : Ready n w) where
+module _ (k : Context) where
   -- A word has room for the privileged cubes.
-  pub few_rows : length (privileged_words w) ≤ 64
-  few_rows = omega (arith, part_length privileged_at (count_in w) w (omega (arith, s.few, s.long)), s.few)
+  pub few_rows : length (privileged_words k) ≤ 64
+  few_rows = omega (arith, length-take k.count k.privileged, k.few)
 
   -- The rows that are met, without those whose start point is contained.
-  pub illegal_are : (c : Cube) {m h : ℕ} → Narrowed (meets_in w) c (length (privileged_words w)) n m → Narrowed (starts_in w) c (length (privileged_words w)) n h
-      → Rows (λ v. illegal (cube_of n c) (privileged_in n v)) (privileged_words w) (bit_xor m (bit_and m h))
-  illegal_are c {m} {h} p q = record { is = λ k l. less_test m h k ∙ ap₂ (λ (a b : Bool). a && not b) (p.is k l) (q.is k l) ∙ row k (ltb k (length (privileged_words w))) refl }
+  pub illegal_are : (c : Cube) {m h : ℕ} → Narrowed k.meets c (length (privileged_words k)) k.n.count m → Narrowed k.starts c (length (privileged_words k)) k.n.count h
+      → Rows (λ v. illegal (cube_of k.n.count c) (privileged_in k.n.count v)) (privileged_words k) (bit_xor m (bit_and m h))
+  illegal_are c {m} {h} p q = record { is = λ i l. less_test m h i ∙ ap₂ (λ (a b : Bool). a && not b) (p.is i l) (q.is i l) ∙ row i (ltb i (length (privileged_words k))) refl }
     where
-      row : (k : ℕ) (b : Bool) → ltb k (length (privileged_words w)) ≡ b → ((b && allowed_to (meets_in w) k c n) && not (b && allowed_to (starts_in w) k c n)) ≡ (b && illegal (cube_of n c) (privileged_in n (get_or (privileged_words w) k 0)))
-      row k true e = let l = ltb→lt k (length (privileged_words w)) (so e) in ap₂ (λ (a b : Bool). a && not b) (s.meets'.is k l c) (s.starts'.is k l c)
-      row k false e = refl
+      row : (i : ℕ) (b : Bool) → ltb i (length (privileged_words k)) ≡ b → ((b && allowed_to k.meets i c k.n.count) && not (b && allowed_to k.starts i c k.n.count)) ≡ (b && illegal (cube_of k.n.count c) (privileged_in k.n.count (get_or (privileged_words k) i 0)))
+      row i true e = let l = ltb→lt i (length (privileged_words k)) (so e) in ap₂ (λ (a b : Bool). a && not b) (k.meeting.is i l c) (k.starting.is i l c)
+      row i false e = refl

@@ -1,4 +1,2 @@
-pub mod Placing
-pub mod Storing
-pub mod Illegal
 pub mod Selecting
+pub mod Illegal

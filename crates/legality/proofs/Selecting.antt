@@ -15,7 +15,7 @@ use Rattle.hazard.specs.Search.{find}
 use Rattle.hazard.proofs.Test.{is, so, tests}
 use Rattle.cube.proofs.WordMask.{no_bit}
 use Rattle.cube.proofs.ByWords.{Lowest, lowest-bit}
-use Rattle.legality.specs.Ready.{Rows}
+use Rattle.legality.specs.Rows.{Rows}
 
 find_at : {A : Type 0} (test : A → Bool) (f : ℕ → A) (rows : List ℕ) (z : ℕ) → z < length rows → test (f (get_or rows z 0)) ≡ true
     → ((j : ℕ) → j < z → test (f (get_or rows j 0)) ≡ false) → Some (f (get_or rows z 0)) ≡ find test (map f rows)

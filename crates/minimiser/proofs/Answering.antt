@@ -1,5 +1,5 @@
 -- From the answer for the stored sets to the minimiser's promise.
-use mathlib.Core.Path.{◌≡◌, refl, sym, ap, ◌∙◌}
+use mathlib.Core.Path.{◌≡◌, refl, sym, ap, ◌∙◌, subst}
 use mathlib.Core.Bool.{Bool}
 use mathlib.Core.List.{List, [], ◌∷◌, ◌++◌, map}
 use Rattle.std.specs.Prelude.{Option, None, Some, Result}
@@ -8,7 +8,7 @@ use Prim.Native.Nat.{ℕ, ◌-◌, ◌*◌, ◌≤◌, ◌<◌}
 use native.Mathlib.Nat.{sub-zero, mul_comm, mul-le-mul, not-le_of_lt}
 use native.Mathlib.Omega.{arith}
 use lib.Dec.{ltb, lt→ltb, ltb→lt}
-use lib.ListN.{length, take, drop, length-map}
+use lib.ListN.{length, get_or, take, drop, length-map}
 use lib.Seq.{take_all}
 use Rattle.hazard.specs.Limits.{most_required, most_cover}
 use Rattle.hazard.specs.Search.{first_of}
@@ -21,24 +21,54 @@ use Rattle.hazard.proofs.Few.{required-few}
 use Rattle.hazard.proofs.Rules.{few-inputs}
 use Rattle.hazard.proofs.Minimal.{minimal}
 use Rattle.hazard.proofs.Promise.{promise_refused, promise_written}
-use Rattle.cube.specs.Entry.{required_in, cube_in, network_in}
+use Rattle.cube.specs.Entry.{required_in, CleanWord, cube_in, network_in}
+use Rattle.cube.specs.PointSet.{in_set}
+use Rattle.cube.specs.declared.inputs.Inputs.{Inputs}
+use Rattle.points.specs.declared.set.PointSet.{PointSet}
 use Rattle.context.specs.Context.{off_in, privileged_of, table_in}
 use Rattle.context.proofs.Values.{off-table}
-use Rattle.checks.specs.Problem.{Problem}
+use Rattle.checks.specs.declared.checked.Checked.{Checked}
 use Rattle.refusal.proofs.Checks.{refuse_yes, refuse_no}
 use Rattle.refusal.specs.declared.refusal.Refusal as code
 use Rattle.selection.specs.Select.{Selects}
-use Rattle.minimiser.specs.Answer.{Writable, Answered}
+use Rattle.minimiser.specs.Answer.{Writable, Answered, AnsweredFor}
 use Rattle.minimiser.proofs.Writing.{writable, refused-kept}
 
--- The problem's sets are those of its context.
-module _ {n : ℕ} {ts w few : List ℕ} {k : ℕ} (p : Problem n (table_in n w) ts w few k) where
-  pub problem_answered : {before after : List ℕ} {a : Minimised} → Answered n (off_in w) (privileged_of n w) (sets.required n (table_in n w) ts) before after a
-      → Answered n (transition.off (table_in n w)) (sets.privileged n (table_in n w) ts) (sets.required n (table_in n w) ts) before after a
-  problem_answered h = rw (off-table p.ready.planes, p.privileged') at h
+-- What is answered for words that hold a checked problem's required cubes is answered for the problem.
+module _ (k : Checked) where
+  abbrev n : ℕ
+  n = k.problem.planes.n.count
 
-  pub problem-few : k ≤ length few → map (required_in n) (take (k - 0) few) ≡ sets.required n (table_in n w) ts
-  problem-few l = ap (λ (j : ℕ). map (required_in n) (take j few)) (sub-zero k) ∙ p.few' ∙ take_all (length few) (sets.required n (table_in n w) ts) (omega (arith, l, p.count'))
+  abbrev table : List ℕ
+  table = table_in k.problem.planes
+
+  abbrev list : List ℕ
+  list = k.problem.transitions.list.now
+
+  off-is : off_in k.context ≡ transition.off table
+  off-is = ap (λ (s : PointSet). in_set s.words) k.sets.off' ∙ off-table k.problem.planes
+
+  module _ (words : List ℕ) (r : map (required_in n) words ≡ sets.required n table list) where
+    pub stored_few : length words ≡ k.count
+    stored_few = sym (length-map words (required_in n)) ∙ ap length r ∙ sym k.sets.count'
+
+    pub stored_room : {room : ℕ} → n * k.count ≤ room → length words * k.context.n.count ≤ room
+    stored_room {room} h = rw (stored_few, k.sets.inputs, mul_comm k.count n) h
+
+    pub stored-clean : ((i : ℕ) → CleanWord n (get_or words i 0)) → (i : ℕ) → CleanWord k.context.n.count (get_or words i 0)
+    stored-clean h = rw k.sets.inputs h
+
+    pub answered_for : {before after : List ℕ} {a : Minimised}
+        → Answered k.context.n.count (off_in k.context) (privileged_of k.context) (map (required_in k.context.n.count) words) before after a → AnsweredFor k.problem.planes list before after a
+    answered_for {before} {after} {a} h =
+        let answer : ℕ → (ℕ → Bool) → List sets.Privileged → List sets.Required → Type 0 = λ m o vs rs. Answered m o vs rs before after a in
+        let own = subst (λ (m : Inputs). answer m.count (off_in k.context) (privileged_of k.context) (map (required_in m.count) words)) k.sets.inputs h in
+        let for_off = subst (λ (o : ℕ → Bool). answer n o (privileged_of k.context) (map (required_in n) words)) off-is own in
+        let for_privileged = subst (λ (vs : List sets.Privileged). answer n (transition.off table) vs (map (required_in n) words)) k.sets.privileged' for_off in
+        subst (λ (rs : List sets.Required). answer n (transition.off table) (sets.privileged n table list) rs) r for_privileged
+
+  pub checked-few : k.count ≤ length k.few → map (required_in n) (take (k.count - 0) k.few) ≡ sets.required n table list
+  checked-few l = ap (λ (j : ℕ). map (required_in n) (take j k.few)) (sub-zero k.count) ∙ k.sets.few' ∙ take_all (length k.few) (sets.required n table list) (omega (arith, l, k.sets.count'))
 
 -- A buffer with n bytes for each stored required cube has room for what select answers.
 pub stored_writable : (n : ℕ) (off : ℕ → Bool) (vs : List sets.Privileged) (required products cover : List ℕ) (r : Result (Range ℕ) code.Refusal) → Selects n off vs (map (required_in n) required) products r
@@ -46,10 +76,6 @@ pub stored_writable : (n : ℕ) (off : ℕ → Bool) (vs : List sets.Privileged)
 stored_writable n off vs required products cover r h few room =
     let e = length-map required (required_in n) in
     writable n off vs (map (required_in n) required) products cover r h (omega (arith, e, few)) (rw e room)
-
--- The stored required cubes, as the part that is handed on.
-pub part_few : (n : ℕ) {rs : List sets.Required} (words : List ℕ) (k : ℕ) → map (required_in n) (take (k - 0) words) ≡ rs → length (take (k - 0) words) ≡ length rs
-part_few n words k e = sym (length-map (take (k - 0) words) (required_in n)) ∙ ap length e
 
 -- The promise, of each way to answer.
 module _ (n : ℕ) (f ts before : List ℕ) where
@@ -97,3 +123,7 @@ module _ (n : ℕ) (f ts before : List ℕ) where
     -- The bytes that are asked for are few.
     pub bytes-few : (count : ℕ) → count ≡ length (sets.required n f ts) → n * count ≤ most_cover
     bytes-few count e = let l : count ≤ most_required = omega (arith, e, required-few n f ts ok) in mul-le-mul (few-inputs n f ts ok).1 l
+
+-- What is promised, said of the caller's problem.
+pub promised_as : {n m : ℕ} {f g ts us before after : List ℕ} {a : Minimised} → m ≡ n → g ≡ f → us ≡ ts → Promise m g us before after a → Promise n f ts before after a
+promised_as e p q h = rw (← e, ← p, ← q) h

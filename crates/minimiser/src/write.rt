@@ -10,15 +10,16 @@ ghost use Rattle.selection.specs.Select.{Selects};
 ghost use Rattle.selection.specs.Answer.{minimised_of};
 ghost use Rattle.minimiser.specs.Answer.{Writable, Answered};
 
+use cube::inputs::Inputs;
 use network_bytes::write::write_network;
 use refusal::refusal::Refusal;
 use sequence::sort::sort;
 use std::ops::Range;
 
 // The words are sorted, and their bytes written.
-fn write_sorted(n: usize, words: &mut [u64], cover: &mut [u8])
-    requires { (n ≤ 10) × (length words.old ≤ most_required) × (length words.old * n ≤ length cover.old) }
-    ensures { Sorts up_to words.old words.new × (cover.new ≡ bytes_of (network_in n words.new) ++ drop (length words.new * n) cover.old) }
+fn write_sorted(n: Inputs, words: &mut [u64], cover: &mut [u8])
+    requires { (length words.old ≤ most_required) × (length words.old * n.count ≤ length cover.old) }
+    ensures { Sorts up_to words.old words.new × (cover.new ≡ bytes_of (network_in n.count words.new) ++ drop (length words.new * n.count) cover.old) }
 {
     sort(words);
     write_network(n, words, cover);
@@ -26,13 +27,13 @@ fn write_sorted(n: usize, words: &mut [u64], cover: &mut [u8])
 
 // What select answers, as the minimiser's answer: the words that it kept are written in sequence, or nothing where it refused.
 pub fn written(
-    n: usize,
+    n: Inputs,
     selected: Result<Range<usize>, Refusal>,
     products: &mut [u64],
     cover: &mut [u8],
 ) -> Result<usize, Refusal>
-    requires { (n ≤ 10) × Writable n products.old cover.old selected }
-    ensures { (off : ℕ → Bool) (vs : List Privileged) (rs : List Required) → Selects n off vs rs products.old selected → Answered n off vs rs cover.old cover.new (minimised_of result) }
+    requires { Writable n.count products.old cover.old selected }
+    ensures { (off : ℕ → Bool) (vs : List Privileged) (rs : List Required) → Selects n.count off vs rs products.old selected → Answered n.count off vs rs cover.old cover.new (minimised_of result) }
 {
     let Range { start, end } = selected?;
     write_sorted(n, &mut products[start..end], cover);

@@ -1,13 +1,16 @@
 -- A loop over the inputs at which two points differ.
 use mathlib.Core.Path.{◌≡◌, refl, sym, ap, ◌∙◌, subst}
 use mathlib.Core.Bool.{Bool, true, false, not, ◌&&◌, ◌||◌, or-false}
-use mathlib.Core.List.{List, [], ◌∷◌}
-use Prim.Native.Nat.{ℕ, zero, suc, ◌/◌, ◌%◌, ◌^◌, ◌≤◌, ◌<◌}
+use mathlib.Core.List.{List, ◌∷◌}
+use Prim.Native.Nat.{ℕ, zero, suc, ◌+◌, ◌*◌, ◌/◌, ◌%◌, ◌^◌, ◌≤◌, ◌<◌}
 use native.Mathlib.Nat.{mod-eq_of_lt}
 use native.Mathlib.Decide.{dec_lt}
 use native.Mathlib.Omega.{arith}
 use lib.Dec.{T, eqb}
 use lib.Bits.{bit_or, bit_xor, or_shr, or_lt, xor_lt}
+use lib.Pow.{pow_mono}
+use Rattle.std.specs.Int.Count.{count_trailing_zeros}
+use mathlib.Core.Logic.{◌≢◌}
 use Rattle.std.specs.Prelude.{Some}
 use Rattle.std.specs.List.{list_any, AllByRecursion}
 use Rattle.hazard.specs.Search.{found, first, those}
@@ -18,7 +21,7 @@ use Rattle.cube.proofs.Bits.{bit_case2, or_last}
 use Rattle.cube.proofs.WordMask.{no_bit, xor-bits}
 use Rattle.points.specs.PointWord.{WordOf, points_in}
 use Rattle.points.proofs.Masked.{and_assoc}
-use Rattle.points.proofs.Members.{points_below}
+use Rattle.points.proofs.Members.{points_below, points_more, points_none}
 use Rattle.moves.specs.Further.{moves_from, moves_into, further_in}
 use Rattle.context.proofs.PlaneWord.{bit_past}
 
@@ -76,16 +79,19 @@ module _ {n : ℕ} (few : n ≤ 10) (set : ℕ → Bool) {a b : ℕ} (h : a < 2 
     unfolding points_in
     inputs_move = any_those (λ i. eqb (bit (bit_xor a b) (i % 64)) 1) (λ i. moves_from set (bit a i) i x) 0 64 ∙ bool_ext _ _ to from
 
--- The points of word w whose moves were looked at, and those of the inputs that are left: together all that have a move further.
-pub record Moving (n : ℕ) (set : ℕ → Bool) (a b w : ℕ) (left : List ℕ) (r : ℕ) : Type 0 where
+-- The points of word w whose moves were looked at, and those of the inputs that are left, as the members of a word: together all that have a
+-- move further.
+pub record Moving (n : ℕ) (set : ℕ → Bool) (a b w left r : ℕ) : Type 0 where
   pub small : r < 2 ^ 64
-  pub below : AllByRecursion (λ i. i < n) left
-  pub all : (x : ℕ) → x / 64 ≡ w → (eqb (bit r (x % 64)) 1 || list_any (λ i. moves_from set (bit a i) i x) left) ≡ further_in n set a b x
+  pub fits : left < 2 ^ 64
+  pub below : AllByRecursion (λ i. i < n) (points_in 0 left)
+  pub all : (x : ℕ) → x / 64 ≡ w → (eqb (bit r (x % 64)) 1 || list_any (λ i. moves_from set (bit a i) i x) (points_in 0 left)) ≡ further_in n set a b x
 
-pub moving_start : {n : ℕ} → n ≤ 10 → (set : ℕ → Bool) {a b : ℕ} (w : ℕ) → a < 2 ^ n → b < 2 ^ n → Moving n set a b w (points_in 0 (bit_xor a b)) 0
+pub moving_start : {n : ℕ} → n ≤ 10 → (set : ℕ → Bool) {a b : ℕ} (w : ℕ) → a < 2 ^ n → b < 2 ^ n → Moving n set a b w (bit_xor a b) 0
 moving_start {n} few set {a} {b} w h l =
     record {
       small = omega arith;
+      fits = omega (arith, xor_lt n a b h l, pow_mono {i = n} {j = 64} (omega (arith, few)));
       below = inputs_below few set h l;
       all = λ x q. ap (λ (y : ℕ). eqb y 1 || list_any (λ i. moves_from set (bit a i) i x) (points_in 0 (bit_xor a b))) (no_bit 0 (x % 64) refl) ∙ inputs_move few set h l x;
     }
@@ -94,23 +100,34 @@ or-assoc : (a b c : Bool) → ((a || b) || c) ≡ (a || (b || c))
 or-assoc true b c = refl
 or-assoc false b c = refl
 
-module _ {n : ℕ} {set : ℕ → Bool} {a b w : ℕ} {left : List ℕ} {r : ℕ} (s : Moving n set a b w left r) where
-  module _ {i : ℕ} {rest : List ℕ} (e : left ≡ i ∷ rest) where
-    below_all : AllByRecursion (λ j. j < n) (i ∷ rest)
-    below_all = subst (AllByRecursion (λ j. j < n)) e s.below
+module _ {n : ℕ} {set : ℕ → Bool} {a b w left r : ℕ} (s : Moving n set a b w left r) where
+  -- The lowest of the inputs that are left, and the others.
+  module _ {i next : ℕ} (ne : left ≢ 0) (is : i ≡ count_trailing_zeros 64 left) (after : next ≡ flip left i) where
+    split : points_in 0 left ≡ i ∷ points_in 0 next
+    split =
+        let e : 64 * 0 + count_trailing_zeros 64 left ≡ count_trailing_zeros 64 left = omega arith in
+        rw (after, is) (subst (λ (k : ℕ). points_in 0 left ≡ k ∷ points_in 0 (flip left (count_trailing_zeros 64 left))) e (points_more 0 left s.fits ne))
+
+    below_all : AllByRecursion (λ j. j < n) (i ∷ points_in 0 next)
+    below_all = subst (AllByRecursion (λ j. j < n)) split s.below
 
     pub moving_input : i < n
     moving_input = below_all.0
 
-    pub moving_more : {q : ℕ} → WordOf (moves_from set (bit a i) i) w q → Moving n set a b w rest (bit_or r q)
-    moving_more {q} p =
+    pub moving_more : next < left → {q : ℕ} → WordOf (moves_from set (bit a i) i) w q → Moving n set a b w next (bit_or r q)
+    moving_more less {q} p =
         record {
           small = or_lt 64 r q s.small p.small;
+          fits = omega (arith, less, s.fits);
           below = below_all.1;
-          all = λ x g. let tail = list_any (λ j. moves_from set (bit a j) j x) rest in
+          all = λ x g. let tail = list_any (λ j. moves_from set (bit a j) j x) (points_in 0 next) in
               ap (λ (c : Bool). c || tail) (ap (λ (y : ℕ). eqb y 1) (or-bits r q (x % 64)) ∙ either_bit (r / 2 ^ (x % 64)) (q / 2 ^ (x % 64)) ∙ ap (λ (c : Bool). eqb (bit r (x % 64)) 1 || c) (p.bits x g))
-              ∙ or-assoc (eqb (bit r (x % 64)) 1) (moves_from set (bit a i) i x) tail ∙ ap (λ (m : List ℕ). eqb (bit r (x % 64)) 1 || list_any (λ j. moves_from set (bit a j) j x) m) (sym e) ∙ s.all x g;
+              ∙ or-assoc (eqb (bit r (x % 64)) 1) (moves_from set (bit a i) i x) tail ∙ ap (λ (m : List ℕ). eqb (bit r (x % 64)) 1 || list_any (λ j. moves_from set (bit a j) j x) m) (sym split) ∙ s.all x g;
         }
 
-  pub moving_end : left ≡ [] → WordOf (further_in n set a b) w r
-  moving_end e = record { small = s.small; bits = λ x q. sym (or-false (eqb (bit r (x % 64)) 1)) ∙ ap (λ (m : List ℕ). eqb (bit r (x % 64)) 1 || list_any (λ j. moves_from set (bit a j) j x) m) (sym e) ∙ s.all x q }
+  pub moving_end : left ≡ 0 → WordOf (further_in n set a b) w r
+  moving_end e =
+      record {
+        small = s.small;
+        bits = λ x q. sym (or-false (eqb (bit r (x % 64)) 1)) ∙ ap (λ (m : List ℕ). eqb (bit r (x % 64)) 1 || list_any (λ j. moves_from set (bit a j) j x) m) (sym (ap (points_in 0) e ∙ points_none 0)) ∙ s.all x q;
+      }

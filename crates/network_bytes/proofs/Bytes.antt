@@ -10,17 +10,17 @@ use Rattle.std.specs.Prelude.{Option, None, Some, option_map}
 use lib.Dec.{T, ltb, leb→le}
 use Rattle.std.specs.List.{list_any}
 use lib.ListN.{length, get_or, take, drop, length-drop}
-use lib.Seq.{length-take-le, drop-drop, get_or-take, get_or-drop}
+use lib.Seq.{length-take-le, drop-drop}
 use borrow.Author.Tests.{lt-ltb, le-ltb, lt-leb, le-leb}
 use native.Mathlib.Decide.{dec_lt}
 use Rattle.hazard.specs.Cube.{is_product}
 use Rattle.hazard.specs.Cover.{product_at}
 use Rattle.hazard.specs.Search.{first}
 use Rattle.hazard.specs.Refusal.{Refusal, product_refusal}
-use Rattle.hazard.specs.Verdict.{cut, products, digits_check}
+use Rattle.hazard.specs.Verdict.{cut, products, products_check, digits_check}
 use Rattle.hazard.proofs.Test.{T_and}
 use Rattle.hazard.proofs.Network.{entry_at}
-use Rattle.hazard.proofs.Verdict.{products-length}
+use Rattle.hazard.proofs.Verdict.{products-length, products_fit, digits_formed}
 use Rattle.network_bytes.specs.Network.{Sound}
 
 -- Some byte above 2.
@@ -77,6 +77,11 @@ digits-found n bytes {j} {r} q e = ap {B = Option Refusal} Some q ∙ ap (option
 pub digits-none : (n : ℕ) (bytes : List ℕ) → None ≡ first (bad_at n bytes) 0 (length bytes / n) → ◌≡◌ {A = Option Refusal} None (digits_check n (products n bytes))
 digits-none n bytes e = ap (option_map (product_refusal 12)) e ∙ sym (digits_check_lem n bytes)
 
+-- What checks 11 and 12 let through.
+pub sound : {n : ℕ} → n ≤ 10 → 1 ≤ n → (bytes : List ℕ) → products_check n bytes ≡ None → digits_check n (products n bytes) ≡ None → Sound n bytes
+sound {n} small some bytes p d =
+    let (even, few) = products_fit n bytes p in record { some' = some; small = small; even = even; few = few; digits = digits_formed n bytes d }
+
 -- The bytes of a product are at most 2.
 digit-le : (n : ℕ) (l : List ℕ) (i : ℕ) → T (is_product n l) → i < n → get_or l i 0 ≤ 2
 digit-le zero l i t h = absurd (not-suc-le-zero h)
@@ -84,8 +89,6 @@ digit-le (suc n) [] i t h = absurd t
 digit-le (suc n) (d ∷ ds) zero t h = leb→le d 2 (simp T_and at t).0
 digit-le (suc n) (d ∷ ds) (suc i) t h = digit-le n ds i (simp T_and at t).1 (le_of_suc-le-suc h)
 
-pub byte_le : {n : ℕ} {bytes : List ℕ} → Sound n bytes → {at j : ℕ} → at ≡ j * n → j < length bytes / n → (i : ℕ) → i < n → get_or bytes (at + i) 0 ≤ 2
-byte_le {n} {bytes} s {at} {j} e h i l =
-    let t = s.digits (product_at (products n bytes) j) (entry_at (products n bytes) j (omega (arith, products-length n bytes))) in
-    let u = digit-le n (take n (drop (j * n) bytes)) i (rw (products_at n bytes j h) at t) l in
-    rw e (rw (get_or-take n (drop (j * n) bytes) i 0 l, get_or-drop (j * n) bytes i 0) at u)
+pub byte_le : {n : ℕ} {bytes : List ℕ} → Sound n bytes → {j : ℕ} → j < length bytes / n → (i : ℕ) → i < n → get_or (product_at (products n bytes) j) i 0 ≤ 2
+byte_le {n} {bytes} s {j} h i l =
+    digit-le n (product_at (products n bytes) j) i (s.digits (product_at (products n bytes) j) (entry_at (products n bytes) j (omega (arith, products-length n bytes)))) l

@@ -1,3 +1,4 @@
 pub mod Bytes
 pub mod Reading
 pub mod Writing
+pub mod Chunks

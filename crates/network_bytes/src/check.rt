@@ -1,15 +1,18 @@
 // Checks 11 and 12: the network by itself.
-ghost use Rattle.std.specs.Prelude.{◌≡◌, not, ◌+◌, ◌/◌, ◌≤◌, length, take, drop};
+ghost use Rattle.std.specs.Prelude.{◌≡◌, not, ◌+◌, ◌/◌, ◌≤◌, length, take, drop, IfOk};
 ghost use Rattle.hazard.specs.Limits.{most_products};
 ghost use Rattle.hazard.specs.Search.{first_of};
 ghost use Rattle.hazard.specs.Cube.{is_product};
 ghost use Rattle.hazard.specs.Verdict.{products, products_check, digits_check, network_checks};
 ghost use Rattle.refusal.specs.Answer.{refused_by};
 
+use crate::network::NetworkBytes;
+use cube::inputs::Inputs;
 use hazard::limits::MOST_PRODUCTS;
 use refusal::refusal::Refusal;
 
-// 11: the length is no multiple of n, or there are more products than the limit.
+// 11: the length is no multiple of n, or there are more products than the limit. That n is not 0 is a clause, here and below, and no fact of
+// `Inputs`: what takes no inputs too would ask more by it.
 pub fn check_products(n: usize, bytes: &[u8]) -> Result<(), Refusal>
     requires { 1 ≤ n }
     ensures { refused_by result ≡ products_check n bytes.now }
@@ -28,12 +31,12 @@ fn bad_product(product: &[u8]) -> bool
 }
 
 // 12: a byte above 2; the first such product.
-pub fn check_digits(n: usize, bytes: &[u8]) -> Result<(), Refusal>
-    requires { (1 ≤ n) × (n ≤ 10) × (length bytes.now / n ≤ most_products) }
-    ensures { refused_by result ≡ digits_check n (products n bytes.now) }
+pub fn check_digits(n: Inputs, bytes: &[u8]) -> Result<(), Refusal>
+    requires { (1 ≤ n.count) × (length bytes.now / n.count ≤ most_products) }
+    ensures { refused_by result ≡ digits_check n.count (products n.count bytes.now) }
 {
-    for j in 0..bytes.len() / n {
-        if bad_product(&bytes[j * n..j * n + n]) {
+    for (j, product) in bytes.chunks_exact(n.count).enumerate() {
+        if bad_product(product) {
             return Err(Refusal::ProductByte { product: j as u16 });
         }
     }
@@ -41,10 +44,11 @@ pub fn check_digits(n: usize, bytes: &[u8]) -> Result<(), Refusal>
 }
 
 // Both.
-pub fn network_checks(n: usize, bytes: &[u8]) -> Result<(), Refusal>
-    requires { (1 ≤ n) × (n ≤ 10) }
-    ensures { refused_by result ≡ first_of (network_checks n bytes.now) }
+pub fn network_checks<'a>(n: Inputs, bytes: &'a [u8]) -> Result<NetworkBytes<'a>, Refusal>
+    requires { 1 ≤ n.count }
+    ensures { (refused_by result ≡ first_of (network_checks n.count bytes.now)) × IfOk result (λ network. (network.n ≡ n) × (network.bytes.now ≡ bytes.now)) }
 {
-    check_products(n, bytes)?;
-    check_digits(n, bytes)
+    check_products(n.count, bytes)?;
+    check_digits(n, bytes)?;
+    Ok(NetworkBytes { n, bytes })
 }

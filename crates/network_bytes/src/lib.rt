@@ -2,5 +2,6 @@
 #![tactic(auto)]
 
 pub mod check;
+pub mod network;
 pub mod read;
 pub mod write;

@@ -1,18 +1,18 @@
 // A network's products as packed words.
 ghost use Rattle.std.specs.Prelude.{◌/◌, ◌≤◌, length};
-ghost use Rattle.network_bytes.specs.Network.{Sound, Read};
+ghost use Rattle.network_bytes.specs.Network.{Read};
 
-use cube::bytes::product_at;
+use crate::network::NetworkBytes;
+use cube::bytes::product_of;
 use cube::entry::pack;
 
-// The products, stored as words from the first on; how many.
-pub fn read_network(n: usize, bytes: &[u8], out: &mut [u64]) -> usize
-    requires { Sound n bytes.now × (length bytes.now / n ≤ length out.old) }
-    ensures { Read n bytes.now out.new result }
+// The products, stored as words from the first on; how many. By number, and not `zip`: of what is written through that no proof learns anything.
+pub fn read_network(network: NetworkBytes, out: &mut [u64]) -> usize
+    requires { length network.bytes.now / network.n.count ≤ length out.old }
+    ensures { Read network.entry.n.count network.entry.bytes.now out.new result }
 {
-    let count = bytes.len() / n;
-    for j in 0..count {
-        out[j] = pack(0, 0, product_at(n, bytes, j * n));
+    for (j, product) in network.bytes.chunks_exact(network.n.count).enumerate() {
+        out[j] = pack(0, 0, product_of(product));
     }
-    count
+    network.count()
 }

@@ -11,6 +11,8 @@ ghost use Rattle.packing.specs.Packed.{unpacked_refusal, unpacked_answer, unpack
 use conditions::fault::Verdict;
 use refusal::refusal::Refusal;
 
+// Functions, and no `From`: the answers and the numbers are all types of other crates.
+
 // A refusal of the minimiser.
 fn packed_refusal(r: Refusal) -> u64
     requires { RefusalFits (refusal_of r) }
@@ -44,7 +46,7 @@ fn packed(number: u8, refusal: u8, product: u16, transition: u16, point: u16) ->
     u64::from(number) + (fields << 8)
 }
 
-// The verifier's verdict.
+// The verifier's verdict. A match: each case packs fields of its own.
 pub fn packed_verdict(v: Result<Verdict, Refusal>) -> u64
     ensures { unpacked_verdict result ≡ fields_of (judged_of v) }
 {
@@ -54,8 +56,13 @@ pub fn packed_verdict(v: Result<Verdict, Refusal>) -> u64
             packed(0, told.number, told.product, told.transition, told.point)
         }
         Ok(Verdict::Passed) => packed(1, 0, 0, 0, 0),
-        Ok(Verdict::HoldsZero(product, point)) => packed(2, 0, product, 0, point),
-        Ok(Verdict::Intersects(product, transition)) => packed(3, 0, product, transition, 0),
-        Ok(Verdict::Uncovered(transition, label)) => packed(4, 0, 0, transition, label),
+        Ok(Verdict::HoldsZero { product, point }) => packed(2, 0, product, 0, point),
+        Ok(
+            Verdict::Intersects {
+                product,
+                transition,
+            },
+        ) => packed(3, 0, product, transition, 0),
+        Ok(Verdict::Uncovered { transition, label }) => packed(4, 0, 0, transition, label),
     }
 }

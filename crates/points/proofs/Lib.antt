@@ -5,3 +5,4 @@ pub mod Looking
 pub mod Agree
 pub mod Members
 pub mod Uniting
+pub mod Without

@@ -4,14 +4,12 @@ use mathlib.Core.Logic.{◌≢◌}
 use mathlib.Core.Bool.{Bool, true, false, ◌&&◌}
 use mathlib.Core.List.{List, [], ◌∷◌, ◌++◌, append-nil}
 use Prim.Native.Nat.{ℕ, zero, suc, ◌+◌, ◌-◌, ◌*◌, ◌/◌, ◌%◌, ◌^◌, ◌≤◌, ◌<◌}
-use native.Mathlib.Nat.{add-zero, zero-add, one-mul, mod-eq_of_lt}
+use native.Mathlib.Nat.{add-zero, zero-add}
 use native.Mathlib.Numerals.{add-one}
 use native.Mathlib.Decide.{ℕ_discrete, dec_lt}
 use native.Mathlib.Omega.{arith}
-use lib.Bits.{bit_xor}
 use lib.Dec.{eqb}
 use lib.Count.{count_trailing_zeros}
-use lib.Pow.{pow-lt}
 use borrow.Author.Tests.{eq-eqb}
 use Rattle.std.specs.List.{AllByRecursion}
 use Rattle.hazard.specs.Search.{those}
@@ -20,7 +18,6 @@ use Rattle.hazard.proofs.Test.{so_not}
 use Rattle.hazard.proofs.Point.{flip-same, flip-other}
 use Rattle.cube.proofs.Scan.{left, those_skip}
 use Rattle.cube.proofs.ByWords.{Lowest, lowest-bit}
-use Rattle.cube.proofs.Points.{flip-xor}
 use Rattle.cube.proofs.WordMask.{no_bit}
 use Rattle.points.specs.PointWord.{WordOf, points_in, Below}
 use Rattle.points.specs.declared.walk.Walk.{Walk}
@@ -160,10 +157,3 @@ module _ (w r : ℕ) (h : r < 2 ^ 64) (ne : r ≢ 0) where
       (those-same p q (at + 1) (64 * w + 64 - (at + 1)) (λ x a b. ap (λ (k : ℕ). eqb k 1) (sym (flip-other r (count_trailing_zeros 64 r) (x % 64) (λ e. omega (arith, low.inside)))))
       ∙ sym (those_skip q (64 * w + 64) (count_trailing_zeros 64 r + 1) (64 * w) (at + 1) (omega arith) (λ z a b c. so_not (lower z a b)))
       ∙ ap (those q (64 * w)) size)
-
-  -- The code clears the bit by xor.
-  pub points_next : points_in w r ≡ (64 * w + count_trailing_zeros 64 r) ∷ points_in w (bit_xor r ((1 * 2 ^ count_trailing_zeros 64 r) % 2 ^ 64))
-  points_next =
-      let b = count_trailing_zeros 64 r in
-      let e : bit_xor r ((1 * 2 ^ b) % 2 ^ 64) ≡ flip r b = ap (bit_xor r) (ap (λ (x : ℕ). x % 2 ^ 64) (one-mul (2 ^ b)) ∙ mod-eq_of_lt (pow-lt {i = b} {j = 64} low.inside)) ∙ flip-xor r b in
-      points_more ∙ ap (λ (q : ℕ). at ∷ points_in w q) (sym e)

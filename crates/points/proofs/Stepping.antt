@@ -1,6 +1,5 @@
 -- The points that a walk comes to, and its steps.
 use mathlib.Core.Path.{◌≡◌, refl, sym, ap, ap₂, ◌∙◌}
-use mathlib.Core.Logic.{◌≢◌}
 use mathlib.Core.Bool.{Bool, true, false, not, cond, ◌&&◌}
 use Prim.Native.Nat.{ℕ, ◌+◌, ◌-◌, ◌*◌, ◌/◌, ◌%◌, ◌^◌, ◌≤◌, ◌<◌}
 use native.Mathlib.Nat.{mod-lt, mod-eq_of_lt, div-eq_of_lt, div_self, lt_of_le_of_lt, mul-le-mul_left, mul-one, zero-mul, zero-add}
@@ -9,7 +8,7 @@ use native.Mathlib.Omega.{arith}
 use lib.Bits.{bit_and, bit_xor, and_block, and_mask, and_mod, and_le_r, and_zero_l, xor_shr, xor_zero_r}
 use lib.Dec.{T, eqb, ltb}
 use lib.Pow.{pow_pos, pow_mono, split, high_ones, shr_mod, shr_mono}
-use borrow.Author.Tests.{lt-ltb, le-ltb, eq-eqb, ne_eqb}
+use borrow.Author.Tests.{lt-ltb, le-ltb, ne_eqb}
 use Rattle.hazard.specs.Cube.{bit, has}
 use Rattle.hazard.proofs.Test.{is, isnt}
 use Rattle.cube.specs.declared.mask.Cube.{Cube}
@@ -23,13 +22,6 @@ use Rattle.cube.proofs.WordMask.{no_bit, less_test}
 use Rattle.points.specs.declared.walk.Walk.{Walk}
 use Rattle.points.specs.declared.walk.Step.{Step}
 use Rattle.points.specs.Walk.{Ten, in_words, visits, Walks, bits_at, At, Steps}
-
--- The bits of a word: without the old ones where the old cube has points in it, else all.
-pub bits_old : (k : Walk) (w : ℕ) → differs k.old w ≡ 0 → bit_xor k.mask (bit_and k.mask k.gone) ≡ bits_at k w
-bits_old k w e = sym (ap (λ (b : Bool). cond b (bit_xor k.mask (bit_and k.mask k.gone)) k.mask) (eq-eqb (differs k.old w) 0 e))
-
-pub bits_new : (k : Walk) (w : ℕ) → differs k.old w ≢ 0 → k.mask ≡ bits_at k w
-bits_new k w h = sym (ap (λ (b : Bool). cond b (bit_xor k.mask (bit_and k.mask k.gone)) k.mask) (ne_eqb (differs k.old w) 0 h))
 
 -- A cube of n inputs, as one of ten with 0 for the others.
 module _ {n : ℕ} (few : n ≤ 10) {c : Cube} (s : Clean n c) where
@@ -113,10 +105,10 @@ but_within false b l = refl
 
 module _ {n : ℕ} (k : Walk) {c : Cube} (s : Clean n c) {d : Cube} (t : Ten n c d) (w : Words d k.words) (m : Marks d 6 k.mask) where
   pub over-is : k.gone ≡ 0 → Walks n k (has (cube_of n c))
-  over-is g = record { fits = w.fits; is = λ x l. rw g (ap₂ ◌&&◌ (in_words_lem s t w m x l) refl) ∙ none_out (has (cube_of n c) x && ltb x (2 ^ n)) (eqb (differs k.old (x / 64)) 0) (x % 64) }
+  over-is g = record { is = λ x l. rw g (ap₂ ◌&&◌ (in_words_lem s t w m x l) refl) ∙ none_out (has (cube_of n c) x && ltb x (2 ^ n)) (eqb (differs k.old (x / 64)) 0) (x % 64) }
 
   pub added_is : {o : Cube} → Clean n o → {p : Cube} → Ten n o p → Words p k.old → Marks p 6 k.gone → Walks n k (λ x. has (cube_of n c) x && not (has (cube_of n o) x))
-  added_is {o} s' t' w' m' = record { fits = w.fits; is = λ x l. ap₂ (λ (a b : Bool). a && not b) (in_words_lem s t w m x l) (in_words_lem s' t' w' m' x l) ∙ but_within (has (cube_of n c) x) (has (cube_of n o) x) (ltb x (2 ^ n)) }
+  added_is {o} s' t' w' m' = record { is = λ x l. ap₂ (λ (a b : Bool). a && not b) (in_words_lem s t w m x l) (in_words_lem s' t' w' m' x l) ∙ but_within (has (cube_of n c) x) (has (cube_of n o) x) (ltb x (2 ^ n)) }
 
 -- The bits of a word that has points of the cube.
 module _ (k : Walk) (w : ℕ) where
@@ -131,9 +123,9 @@ module _ (k : Walk) (w : ℕ) where
   bits_visit : eqb (differs k.words w) 0 ≡ true → (x : ℕ) → x / 64 ≡ w → eqb (bit (bits_at k w) (x % 64)) 1 ≡ visits k x
   bits_visit e x q = but (eqb (differs k.old w) 0) (x % 64) ∙ ap (λ (b : Bool). (b && eqb (bit k.mask (x % 64)) 1) && not (eqb (differs k.old w) 0 && eqb (bit k.gone (x % 64)) 1)) (sym e) ∙ ap (λ (v : ℕ). (eqb (differs k.words v) 0 && eqb (bit k.mask (x % 64)) 1) && not (eqb (differs k.old v) 0 && eqb (bit k.gone (x % 64)) 1)) (sym q)
 
-module _ (k : Walk) (f : Clean 4 k.words) where
+module _ (k : Walk) where
   word-has : (w : ℕ) → eqb (differs k.words w) 0 ≡ has (cube_of 4 k.words) w
-  word-has w = has_masks 4 k.words.care k.words.value w f.small
+  word-has w = has_masks 4 k.words.care k.words.value w k.fits.small
 
   no_word : (x : ℕ) → ¬ T (has (cube_of 4 k.words) (x / 64)) → visits k x ≡ false
   no_word x t = ap (λ (b : Bool). (b && eqb (bit k.mask (x % 64)) 1) && not (in_words k.old k.gone x)) (word-has (x / 64) ∙ isnt (has (cube_of 4 k.words) (x / 64)) t)
@@ -145,8 +137,8 @@ module _ (k : Walk) (f : Clean 4 k.words) where
   step_first {s} e h m =
       record {
         later = omega arith;
-        at' = at_word (λ l. rw e (word_first f)) h m;
-        gap = λ x a b l. no_word x (word_below f (x / 64) (omega (arith, b, e)));
+        at' = at_word (λ l. rw e (word_first k.fits)) h m;
+        gap = λ x a b l. no_word x (word_below k.fits (x / 64) (omega (arith, b, e)));
       }
 
   pub step_next : {w : ℕ} {s : Step} → Next 4 (cube_of 4 k.words) w s.word → s.mask < 2 ^ 64 → s.mask ≡ bits_at k s.word → Steps k (w + 1) s

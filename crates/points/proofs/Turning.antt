@@ -4,7 +4,7 @@ use Rattle.std.specs.Prelude.{Some}
 use Prim.Native.Nat.{◌+◌}
 use Rattle.points.specs.declared.walk.Walk.{Walk}
 use Rattle.points.specs.declared.walk.Step.{Step}
-use Rattle.points.specs.declared.walk.Walking.{Walking}
+use Rattle.points.specs.declared.steps.Walking.{Walking}
 use Rattle.points.specs.Walk.{Steps, Stepped}
 
 -- The steps are those of the walk k, and the fact holds of the one that is next.

@@ -20,7 +20,7 @@ points_in w r = those (λ x. eqb (bit r (x % 64)) 1) (64 * w) 64
 
 -- The points that are still to come.
 abbrev pub points_left : Points → List ℕ
-points_left s = points_in s.word s.left
+points_left s = points_in s.word s.bits.left
 
 -- They are all below size.
 pub record Below (size w r : ℕ) : Type 0 where

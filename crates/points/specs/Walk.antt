@@ -1,7 +1,6 @@
 -- The points of a cube by words of 64, without those of another one.
-use Rattle.std.specs.Prelude.{◌≡◌, Bool, false, not, cond, ◌&&◌, ℕ, ◌+◌, ◌/◌, ◌%◌, ◌^◌, ◌≤◌, ◌<◌, T, eqb, ltb}
+use Rattle.std.specs.Prelude.{◌≡◌, Bool, false, not, cond, ◌&&◌, ℕ, ◌+◌, ◌/◌, ◌%◌, ◌^◌, ◌≤◌, ◌<◌, T, eqb, ltb, Option, MatchOption}
 use Rattle.std.specs.Int.Bits.{bit_and, bit_xor}
-use Rattle.std.specs.Prelude.{Option, MatchOption}
 use Rattle.hazard.specs.Search.{first}
 use Rattle.hazard.specs.Cube.{bit, has}
 use Rattle.cube.specs.Mask.{cube_of, Clean}
@@ -9,7 +8,7 @@ use Rattle.cube.specs.WordMask.{differs}
 use Rattle.cube.specs.declared.mask.Cube.{Cube}
 use Rattle.points.specs.declared.walk.Walk.{Walk}
 use Rattle.points.specs.declared.walk.Step.{Step}
-use Rattle.points.specs.declared.walk.Walking.{Walking}
+use Rattle.points.specs.declared.steps.Walking.{Walking}
 
 -- The cube r of ten inputs has the points of the cube c of n inputs: its further literals are 0.
 pub record Ten (n : ℕ) (c r : Cube) : Type 0 where
@@ -30,7 +29,6 @@ lowest_on k test = first (λ x. visits k x && test x) 0 1024
 
 -- The walk comes to the points of n inputs that pass the test, and to no others.
 pub record Walks (n : ℕ) (k : Walk) (test : ℕ → Bool) : Type 0 where
-  pub fits : Clean 4 k.words
   pub is : (x : ℕ) → x < 1024 → visits k x ≡ (test x && ltb x (2 ^ n))
 
 -- The mask for word w: without the old bits, where the old cube has points in it.
@@ -50,8 +48,8 @@ pub record Steps (k : Walk) (from : ℕ) (s : Step) : Type 0 where
   pub gap : (x : ℕ) → from ≤ x / 64 → x / 64 < s.word → x / 64 < 16 → visits k x ≡ false
 
 -- The step that is next stands in the walk.
-abbrev pub Stands : Walking → Type 0
-Stands s = Clean 4 s.walk.words × At s.walk s.next
+abbrev pub UnderWay : Walking → Type 0
+UnderWay s = At s.walk s.next
 
 -- What was next was given, and the step after it is next; or no word of the 16 was left.
 abbrev pub Stepped : Walking → Option Step → Walking → Type 0

@@ -2,6 +2,10 @@
 #![tactic(auto)]
 
 pub mod lowest;
+pub mod over;
+pub mod set;
+pub mod step;
+pub mod steps;
 pub mod union;
 pub mod walk;
 pub mod word;

@@ -1,20 +1,9 @@
-// One word of a set of points.
-ghost use Rattle.std.specs.Prelude.{◌≡◌, ◌+◌, ◌*◌, ◌<◌, length};
+// One word of a set of points, and the points that it holds, one after another.
+ghost use Rattle.std.specs.Prelude.{◌≡◌, ◌+◌, ◌*◌, ◌^◌, ◌<◌};
 ghost use Rattle.std.specs.Iterator.{YieldsFirst, item_count};
 ghost use Rattle.std.specs.Int.Count.{count_trailing_zeros};
-ghost use Rattle.cube.specs.PointSet.{in_set};
-ghost use Rattle.points.specs.PointWord.{WordOf, masked, points_in, points_left};
 
-use crate::walk::Step;
-
-// The points of the step's word that are in the set, among the step's.
-pub fn set_points(set: &[u64], s: Step) -> u64
-    requires { s.word < length set.now }
-    ensures { WordOf (masked s.mask (in_set set.now)) s.word result }
-{
-    let w = s.word;
-    set[w] & s.mask
-}
+use cube::member::Members;
 
 // The lowest of the points of word w that are the bits of `points`.
 pub fn lowest_point(w: usize, points: u64) -> u16
@@ -24,39 +13,37 @@ pub fn lowest_point(w: usize, points: u64) -> u16
     (64 * w + points.trailing_zeros() as usize) as u16
 }
 
-// The points of word w that are bits of `left`, in ascending order: those that are still to come.
+// The points of word w, in ascending order: those that are still to come.
 #[derive(Drop)]
 pub struct Points {
     word: usize,
-    left: u64,
+    bits: Members,
+    ghost place: { word < 16 },
+    ghost small: { bits.left < 2 ^ 64 },
 }
 
 // The points of word w that are the bits of `points`.
 pub fn points_of(w: usize, points: u64) -> Points
     requires { w < 16 }
-    ensures { (result.word ≡ w) × (result.left ≡ points) }
+    ensures { (result.word ≡ w) × (result.bits.left ≡ points) }
 {
     Points {
         word: w,
-        left: points,
+        bits: Members::of(points),
     }
 }
 
 impl Iterator for Points {
     type Item = u16;
 
-    ghost can_next = { λ s. s.word < 16 };
+    ghost use Rattle.points.specs.PointWord.{points_left};
 
     ghost next_gives = { YieldsFirst points_left };
 
     ghost remaining = { item_count points_left };
 
     fn next(&mut self) -> Option<u16> {
-        if self.left == 0 {
-            return None;
-        }
-        let point = lowest_point(self.word, self.left);
-        self.left ^= 1u64 << self.left.trailing_zeros();
-        Some(point)
+        let bit = self.bits.next()?;
+        Some((64 * self.word + bit) as u16)
     }
 }

@@ -40,27 +40,6 @@ decimal_digit x d p h l =
 pub decimal-long : (x : ℕ) → 0 < length (decimal x)
 decimal-long x = elim (dec_lt x 10) [ yes l ↦ rw (spelled-digit 4 x l) (omega arith) | no g ↦ rw (spelled_last 4 x (omega arith), length-append (spelled 4 (x / 10)) (digit (x % 10) ∷ [])) (omega arith) ]
 
--- A number below 10 is one digit.
-pub spelled-one : (k x : ℕ) → 0 < k → x < 10 → spelled k x ≡ digit (x % 10) ∷ []
-spelled-one zero x p h = absurd (omega arith)
-spelled-one (suc k) x p h = let e : x % 10 ≡ x = omega arith in spelled-digit k x h ∙ ap (λ (d : ℕ). digit d ∷ []) (sym e)
-
--- A larger number is the digits of its tens, then its last digit.
-pub spelled-more : (k x : ℕ) → 0 < k → 10 ≤ x → spelled k x ≡ spelled (k - 1) (x / 10) ++ (digit (x % 10) ∷ [])
-spelled-more zero x p h = absurd (omega arith)
-spelled-more (suc k) x p h = let e : suc k - 1 ≡ k = omega arith in rw e (spelled_last k x h)
-
--- The tens have a digit less.
-pub tens_below : (k x : ℕ) → 0 < k → x < 10 ^ k → x / 10 < 10 ^ (k - 1)
-tens_below zero x p h = absurd (omega arith)
-tens_below (suc k) x p h = let e : suc k - 1 ≡ k = omega arith in rw e (omega (arith, pow-suc 10 k))
-
--- A number from 10 on has two digits or more.
-pub two_digits : (k x : ℕ) → 10 ≤ x → x < 10 ^ k → 1 < k
-two_digits zero x h b = absurd (omega arith)
-two_digits (suc zero) x h b = absurd (omega arith)
-two_digits (suc (suc k)) x h b = omega arith
-
 -- At most k digits.
 pub spelled-length : (k x : ℕ) → length (spelled k x) ≤ k
 spelled-length zero x = omega arith

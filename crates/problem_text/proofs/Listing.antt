@@ -1,17 +1,19 @@
 -- The loop that reads the transitions.
+use mathlib.Core.Logic.{◌≢◌}
 use mathlib.Core.Path.{◌≡◌, refl, sym, ap, ◌∙◌}
 use mathlib.Core.List.{List, [], ◌∷◌, ◌++◌, append_assoc, append-nil}
 use Rattle.std.specs.Prelude.{None, Some}
 use Prim.Native.Nat.{ℕ, zero, suc, ◌+◌, ◌*◌, ◌≤◌, ◌<◌}
 use native.Mathlib.Numerals.{add-one}
 use native.Mathlib.Omega.{arith}
-use lib.ListN.{length, take, drop, set, length-set, length-append, length-drop, drop_of_length-le}
-use lib.Seq.{drop-cons, take-suc-set}
+use lib.ListN.{length, take, set, length-set, length-append}
+use lib.Seq.{take-suc-set}
+use Rattle.std.proofs.lemmas.List.{nil_from_length}
 use Rattle.problem_text.specs.Decimal.{decimal}
 use Rattle.problem_text.specs.Form.{newline, space, transition_lines, flat, Numbers}
 use Rattle.problem_text.specs.Read.{transition_line, Lines, lines, other}
 use Rattle.problem_text.proofs.Decimal.{decimal-long}
-use Rattle.problem_text.proofs.Transitions.{Line, line_spelled, lines_prefix, lines_none}
+use Rattle.problem_text.proofs.Transitions.{line_spelled, lines_prefix, lines_none}
 
 -- A line more at the end.
 lines_snoc : (ps : List (ℕ × ℕ)) (p : ℕ × ℕ) (cs : List ℕ)
@@ -46,50 +48,37 @@ take_two room k a b h =
     rw (two, add-one) (take-suc-set (set room k a) (suc k) b (omega (arith, length-set room k a))
     ∙ ap (λ (l : List ℕ). l ++ (b ∷ [])) (take-suc-set room k a (omega arith)) ∙ append_assoc (take k room) (a ∷ []) (b ∷ []))
 
--- The lines up to a place are read, and their numbers stand in the room. A number takes at least two bytes of text.
-pub record Listing (text : List ℕ) (from : ℕ) (room : List ℕ) (k at : ℕ) : Type 0 where
+-- The lines before what is left are read, and their numbers stand in the room. A number takes at least two bytes of text.
+pub record Listing (text room : List ℕ) (k : ℕ) (left : List ℕ) : Type 0 where
   pub ps : List (ℕ × ℕ)
-  pub is : drop from text ≡ transition_lines ps ++ drop at text
+  pub is : text ≡ transition_lines ps ++ left
   pub fits : Numbers ps
   pub stored : take k room ≡ flat ps
-  pub few : 2 * k ≤ at
-  pub low : at ≤ length text
+  pub few : 2 * k + length left ≤ length text
 
-module _ {text : List ℕ} {from : ℕ} {room : List ℕ} {k at : ℕ} (s : Listing text from room k at) where
-  pub listing_end : length text ≤ at → k ≤ length room → Lines (drop from text) room (Some k)
-  listing_end h l = lines s.ps (s.is ∙ ap (λ (l : List ℕ). transition_lines s.ps ++ l) (drop_of_length-le text h) ∙ append-nil (transition_lines s.ps)) s.fits s.stored l
+pub listing_start : (text room : List ℕ) → Listing text room 0 text
+listing_start text room = record { ps = []; is = refl; fits = λ k. omega arith; stored = refl; few = omega arith }
 
-  pub listing_none : at < length text → None ≡ transition_line (drop at text) → Lines (drop from text) room None
-  listing_none h e =
-      other (λ qs u q. let (rs, i, j, w) = lines_prefix s.ps qs (drop at text) s.fits u (sym q ∙ s.is) in
-      lines_none rs w (sym (ap transition_line (drop-cons text at 0 h)) ∙ sym e) (sym (drop-cons text at 0 h) ∙ j))
+-- A line takes at least four bytes.
+pub listing_far : (left next : List ℕ) {a b : ℕ} → Some (a, b, next) ≡ transition_line left → 4 + length next ≤ length left
+listing_far left next {a} {b} e =
+    let l = ap length (line_spelled left (sym e)).is in
+    omega (arith, l, length-append (decimal a) (space ∷ decimal b ++ (newline ∷ next)), length-append (decimal b) (newline ∷ next), decimal-long a, decimal-long b)
 
-  module _ {a b next : ℕ} (h : at < length text) (e : Some (a, b, drop next text) ≡ transition_line (drop at text)) (n : next ≤ length text) where
-    line : Line (drop at text) a b (drop next text)
-    line = line_spelled (drop at text) (sym e)
+module _ {text room : List ℕ} {k : ℕ} {left : List ℕ} (s : Listing text room k left) where
+  pub listing_end : length left ≡ 0 → k ≤ length room → Lines text room (Some k)
+  listing_end h l = lines s.ps (s.is ∙ ap (λ (l : List ℕ). transition_lines s.ps ++ l) (nil_from_length left h) ∙ append-nil (transition_lines s.ps)) s.fits s.stored l
 
-    -- A line takes at least four bytes.
-    pub listing_far : at + 4 ≤ next
-    listing_far =
-        let l = ap length line.is in
-        omega (
-          arith,
-          l,
-          length-drop at text,
-          length-drop next text,
-          length-append (decimal a) (space ∷ decimal b ++ (newline ∷ drop next text)),
-          length-append (decimal b) (newline ∷ drop next text),
-          decimal-long a,
-          decimal-long b,
-        )
+  pub listing_none : length left ≢ 0 → None ≡ transition_line left → Lines text room None
+  listing_none h e = other (λ qs u q. let (rs, i, j, w) = lines_prefix s.ps qs left s.fits u (sym q ∙ s.is) in lines_none rs w h (sym e) j)
 
-    pub listing_on : k + 1 < length room → Listing text from (set (set room k a) (k + 1) b) (k + 2) next
-    listing_on r =
-        record {
-          ps = s.ps ++ ((a, b) ∷ []);
-          is = s.is ∙ ap (λ (l : List ℕ). transition_lines s.ps ++ l) line.is ∙ sym (lines_snoc s.ps (a, b) (drop next text));
-          fits = numbers-snoc s.ps (a, b) s.fits line.start line.end;
-          stored = take_two room k a b r ∙ ap (λ (l : List ℕ). l ++ (a ∷ b ∷ [])) s.stored ∙ sym (flat-snoc s.ps (a, b));
-          few = omega (arith, s.few, listing_far);
-          low = n;
-        }
+  pub listing_on : (next : List ℕ) {a b : ℕ} → Some (a, b, next) ≡ transition_line left → k + 1 < length room → Listing text (set (set room k a) (k + 1) b) (k + 2) next
+  listing_on next {a} {b} e r =
+      let line = line_spelled left (sym e) in
+      record {
+        ps = s.ps ++ ((a, b) ∷ []);
+        is = s.is ∙ ap (λ (l : List ℕ). transition_lines s.ps ++ l) line.is ∙ sym (lines_snoc s.ps (a, b) next);
+        fits = numbers-snoc s.ps (a, b) s.fits line.start line.end;
+        stored = take_two room k a b r ∙ ap (λ (l : List ℕ). l ++ (a ∷ b ∷ [])) s.stored ∙ sym (flat-snoc s.ps (a, b));
+        few = omega (arith, s.few, listing_far left next e);
+      }

@@ -1,4 +1,5 @@
 -- Reading the lines of transitions reads exactly their printed form.
+use mathlib.Core.Logic.{◌≢◌}
 use mathlib.Core.Path.{◌≡◌, refl, sym, ap, ap₂, ◌∙◌}
 use mathlib.Core.List.{List, [], ◌∷◌, ◌++◌, append_assoc, append-nil}
 use Rattle.std.specs.Prelude.{None, Some, option_and_then}
@@ -59,9 +60,9 @@ lines_prefix (p ∷ ps) (q ∷ qs) cs u v e =
     (rs, ap₂ (λ (q : ℕ × ℕ) (qs : List (ℕ × ℕ)). q ∷ qs) i j, k, w)
 
 -- A text that begins with no transition's line is no list of lines, unless it is empty.
-pub lines_none : (qs : List (ℕ × ℕ)) {c : ℕ} {cs : List ℕ} → Numbers qs → transition_line (c ∷ cs) ≡ None → ¬ (c ∷ cs ≡ transition_lines qs)
-lines_none [] {cs = cs} u h e = let l : 0 ≡ suc (length cs) = ap length (sym e) in absurd (omega (arith, l))
-lines_none (q ∷ qs) u h e = none-some (sym h ∙ ap transition_line e ∙ lines_here q qs u)
+pub lines_none : (qs : List (ℕ × ℕ)) {cs : List ℕ} → Numbers qs → length cs ≢ 0 → transition_line cs ≡ None → ¬ (cs ≡ transition_lines qs)
+lines_none [] u h n e = h (ap length e)
+lines_none (q ∷ qs) u h n e = none-some (sym n ∙ ap transition_line e ∙ lines_here q qs u)
 
 -- So the lines of transitions tell which they are.
 pub lines_unique : (ps qs : List (ℕ × ℕ)) → Numbers ps → Numbers qs → transition_lines ps ≡ transition_lines qs → ps ≡ qs

@@ -1,17 +1,14 @@
 // A number with the byte that ends it.
-ghost use Rattle.std.specs.Prelude.{◌≡◌, ◌≤◌, length, drop, option_map, IfSome};
+ghost use Rattle.std.specs.Prelude.{◌≡◌, option_map};
 ghost use Rattle.problem_text.specs.Read.{field_by};
 
-use crate::number::number_at;
+use crate::number::number;
 
-// The number that starts at a place, and the place after the byte that ends it.
-pub fn field_at(text: &[u8], from: usize, end: u8) -> Option<(u16, usize)>
-    ensures read { option_map (λ p. (p.0, drop p.1 text.now)) result ≡ field_by end (drop from text.now) }
-    ensures within { IfSome result (λ p. p.1 ≤ length text.now) }
+// The number that a text begins with, and what is left after the byte that ends it.
+pub fn field(text: &[u8], end: u8) -> Option<(u16, &[u8])>
+    ensures { option_map (λ p. (p.0, p.1.now)) result ≡ field_by end text.now }
 {
-    let (x, next) = number_at(text, from)?;
-    if *text.get(next)? == end {
-        return Some((x, next + 1));
-    }
-    None
+    let (x, rest) = number(text)?;
+    let (next, left) = rest.split_first()?;
+    if *next == end { Some((x, left)) } else { None }
 }

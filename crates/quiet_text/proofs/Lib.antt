@@ -2,3 +2,4 @@ pub mod Solving
 pub mod Answering
 pub mod Never
 pub mod Classical
+pub mod Reading

@@ -2,15 +2,15 @@
 use mathlib.Core.Logic.{◌≢◌}
 use mathlib.Core.Path.{◌≡◌, refl, sym, ap, ap₂, subst, ◌∙◌}
 use mathlib.Core.Bool.{Bool, false}
-use mathlib.Core.List.{List, [], ◌∷◌, ◌++◌, Memᴰ, map, append_assoc}
+use mathlib.Core.List.{List, [], ◌∷◌, ◌++◌, Memᴰ, append_assoc}
 use Rattle.std.specs.Prelude.{Option, None, Some}
 use Rattle.std.proofs.lemmas.Option.{same_Some}
 use Prim.Native.Nat.{ℕ, zero, suc, ◌+◌, ◌*◌, ◌≤◌}
-use native.Mathlib.Nat.{mul-le-mul, zero-mul, suc-mul}
+use native.Mathlib.Nat.{mul-le-mul}
 use native.Mathlib.Omega.{arith}
 use lib.Dec.{T, ltb}
-use lib.ListN.{length, get_or, take, drop, length-append, length-map}
-use lib.Seq.{take_at, drop_at, sets-eq}
+use lib.ListN.{length, get_or, take, drop, length-append}
+use lib.Seq.{take_at, drop_at}
 use borrow.Author.Tests.{le-ltb}
 use Rattle.hazard.specs.Limits.{most_required, most_cover}
 use Rattle.hazard.specs.Search.{first_of}
@@ -27,12 +27,10 @@ use Rattle.hazard.proofs.Few.{required-few}
 use Rattle.hazard.proofs.Rules.{few-inputs}
 use Rattle.hazard.proofs.Numbers.{block_number, Numbers, no_more, next, numbers-append, listed, number-listed, input-numbers}
 use Rattle.problem_text.specs.Decimal.{decimal}
-use Rattle.problem_text.specs.Form.{newline, cell}
-use Rattle.writing.specs.Output.{products_head, product_lines, network_text, most_output, field, refusal_text}
-use Rattle.writing.specs.Wrote.{Wrote}
+use Rattle.problem_text.specs.Form.{newline}
+use Rattle.writing.specs.Output.{products_head, product_lines, network_text, refusal_text}
+use Rattle.writing.specs.Put.{Put}
 use Rattle.quiet_text.specs.Answer.{checks, Printed, Solved}
-use Rattle.problem_text.proofs.Decimal.{spelled-length}
-use Rattle.answer_text.proofs.Replies.{lines_most}
 
 module _ (n : ℕ) (f ts : List ℕ) where
   -- The checks have numbers, which compute to a list; 9 is none of them.
@@ -67,11 +65,9 @@ module _ (n : ℕ) (f ts : List ℕ) where
     only_ten : Accepted n f ts → (q : Refusal) → first_of (checks n f ts) ≡ Some q → q.number ≡ 10
     only_ten a q e = block_number n f ts q (sym (first_of-right (input_checks n f ts) (blocking n f ts ∷ []) a ∙ first_of-one (blocking n f ts)) ∙ e)
 
--- Bytes written from the buffer's beginning on are printed.
-pub printed-from : {before bytes after : List ℕ} {r : ℕ} → Wrote before 0 bytes after r → length bytes ≤ length before → Printed before bytes after (Some r)
-printed-from {before} {bytes} w h =
-    let e : 0 + length bytes ≡ length bytes = omega arith in
-    record { count = ap Some (w.place ∙ e); is = w.is ∙ sets-eq bytes before 0 (omega arith) ∙ ap (λ (k : ℕ). bytes ++ drop k before) e }
+-- What is put is printed.
+pub printed-from : {before bytes after : List ℕ} {r : ℕ} → Put before bytes after r → Printed before bytes after (Some r)
+printed-from w = record { count = ap Some w.counted; is = w.is }
 
 product-length : (n : ℕ) (p : Cube) → T (is_product n p) → length p ≡ n
 product-length zero [] t = refl
@@ -94,30 +90,6 @@ printed-within {before} {bytes} {after} w k e =
     let c : k ≡ length bytes = same_Some _ _ (sym e ∙ w.count) in
     let l : length after ≡ length bytes + length (drop (length bytes) before) = ap length w.is ∙ length-append bytes (drop (length bytes) before) in
     omega arith
-
--- A line of a product has a byte for each input and one more.
-lines-length : (n : ℕ) (net : Network) → ((p : Cube) → Memᴰ p net → T (is_product n p)) → length (product_lines net) ≡ length net * (n + 1)
-lines-length n [] h = sym (zero-mul (n + 1))
-lines-length n (p ∷ net) h =
-    length-append (map cell p) (newline ∷ product_lines net)
-    ∙ omega (arith, length-map p cell, product-length n p (h p (Memᴰ.head refl)), lines-length n net (λ q m. h q (Memᴰ.tail m)), suc-mul (length net) (n + 1))
-
--- The output fits.
-pub refusal-length : (q : Refusal) → length (refusal_text q) ≤ 38
-refusal-length q =
-    omega (
-      arith,
-      length-append (decimal q.number) (field q.transition ++ (field q.point ++ (field q.steps ++ (field q.lowest ++ (newline ∷ []))))),
-      length-append (decimal q.transition) (field q.point ++ (field q.steps ++ (field q.lowest ++ (newline ∷ [])))),
-      length-append (decimal q.point) (field q.steps ++ (field q.lowest ++ (newline ∷ []))),
-      length-append (decimal q.steps) (field q.lowest ++ (newline ∷ [])),
-      length-append (decimal q.lowest) (newline ∷ []),
-      spelled-length 5 q.number,
-      spelled-length 5 q.transition,
-      spelled-length 5 q.point,
-      spelled-length 5 q.steps,
-      spelled-length 5 q.lowest,
-    )
 
 -- What stands in the buffer after a count of products.
 record Made (n : ℕ) (f ts before after : List ℕ) (k : ℕ) : Type 0 where
@@ -184,9 +156,9 @@ module _ {n : ℕ} {f ts before after : List ℕ} where
       (omega (arith, mul-le-mul few inputs), inputs, few)
 
   -- A network, printed.
-  pub solved-written : {k : ℕ} {out out' : List ℕ} {r : ℕ} → most_cover ≤ length before → minimal.Promise n f ts before after (written k) → most_output ≤ length out
-      → Wrote out 0 (products_head ++ (decimal k ++ (newline ∷ product_lines (cut n k after)))) out' r → Solved n f ts out out' (Some r)
-  solved-written {k} {out} {out'} {r} h p room w =
+  pub solved-written : {k : ℕ} {out out' : List ℕ} {r : ℕ} → most_cover ≤ length before → minimal.Promise n f ts before after (written k)
+      → Put out (products_head ++ (decimal k ++ (newline ∷ product_lines (cut n k after)))) out' r → Solved n f ts out out' (Some r)
+  solved-written {k} {out} {out'} {r} h p w =
       record {
         refused = λ q e. none-some (sym m.passed ∙ e);
         network = λ e. (m.net, m.minimal', shown);
@@ -202,20 +174,8 @@ module _ {n : ℕ} {f ts before after : List ℕ} where
       text : products_head ++ (decimal k ++ (newline ∷ product_lines (cut n k after))) ≡ network_text m.net
       text = ap₂ (λ (j : ℕ) (net : Network). products_head ++ (decimal j ++ (newline ∷ product_lines net))) m.size same
 
-      fits : length (network_text m.net) ≤ length out
-      fits =
-          let inputs = (few-inputs n f ts m.accepted).1 in
-          let few : length m.net ≤ most_required = omega (arith, m.minimal'.few, required-few n f ts m.accepted) in
-          omega (
-            arith,
-            length-append (decimal (length m.net)) (newline ∷ product_lines m.net),
-            spelled-length 5 (length m.net),
-            lines-length n m.net (product_of m),
-            lines_most n (length m.net) inputs few,
-          )
-
       shown : Printed out (network_text m.net) out' (Some r)
-      shown = printed-from (subst (λ (b : List ℕ). Wrote out 0 b out' r) text w) fits
+      shown = printed-from (subst (λ (b : List ℕ). Put out b out' r) text w)
 
       -- No output is both a network's and a refusal's.
       other : {C : Type 0} (q : Refusal) → Printed out (refusal_text q) out' (Some r) → C

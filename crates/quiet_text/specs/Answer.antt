@@ -1,6 +1,5 @@
 -- What the program promises of its output.
-use Rattle.std.specs.Prelude.{◌↔◌, ◌≢◌, ◌≡◌, List, [], ◌∷◌, ◌++◌, ℕ, ◌≤◌, ◌<◌, length, drop}
-use Rattle.std.specs.Prelude.{Option, None, Some}
+use Rattle.std.specs.Prelude.{◌↔◌, ◌≢◌, ◌≡◌, List, [], ◌∷◌, ◌++◌, ℕ, ◌≤◌, ◌<◌, length, drop, Option, None, Some}
 use Rattle.hazard.specs.Search.{first_of}
 use Rattle.hazard.specs.Cover.{Network}
 use Rattle.hazard.specs.Refusal.{Refusal, refusal, input_checks, Accepted}

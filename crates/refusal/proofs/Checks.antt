@@ -1,7 +1,6 @@
 -- What a check by a test says, and what checks say one after another.
 use mathlib.Core.Path.{◌≡◌, refl, sym, ap, ◌∙◌}
-use mathlib.Core.Logic.{inl, inr}
-use mathlib.Core.Bool.{Bool, true, false, ◌||◌}
+use mathlib.Core.Bool.{Bool, true, false}
 use mathlib.Core.List.{List, [], ◌∷◌, ◌++◌}
 use Rattle.std.specs.Prelude.{Option, None, Some, Result, Ok, Err}
 use Rattle.std.specs.Result.{IsErrAnd}
@@ -10,20 +9,9 @@ use Prim.Native.Nat.{ℕ}
 use lib.Dec.{T}
 use Rattle.hazard.specs.Search.{first_of}
 use Rattle.hazard.specs.Refusal as spec
-use Rattle.hazard.proofs.Test.{or_e}
 use Rattle.hazard.proofs.Search.{first_of-one, first_of-left, first_of-right}
 use Rattle.refusal.specs.Answer.{refusal_of, refused_by}
 use Rattle.refusal.specs.declared.refusal.Refusal.{Refusal}
-
--- One of two tests, and neither.
-pub or-true : (a b : Bool) → a ≡ true → (a || b) ≡ true
-or-true a b e = rw e
-
-pub or-false : (a b : Bool) → a ≡ false → (a || b) ≡ b
-or-false a b e = rw e
-
-pub neither : (a b : Bool) → ¬ T a → ¬ T b → ¬ T (a || b)
-neither a b p q t = elim (or_e a b t) [ inl u ↦ p u | inr u ↦ q u ]
 
 -- A check by a test.
 pub refuse_yes : (b : Bool) (number : ℕ) → T b → Some (spec.refusal number 0 0) ≡ spec.refuse_if b number

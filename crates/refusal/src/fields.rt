@@ -44,7 +44,7 @@ fn blocked(transition: u16, label: u16, steps: u16, lowest: u16) -> Fields
 }
 
 impl Refusal {
-    // What is printed or packed of a refusal.
+    // What is printed or packed of a refusal. A match: each case names fields of its own.
     pub fn fields(self) -> Fields
         ensures { told_by result ≡ refusal_of self }
     {

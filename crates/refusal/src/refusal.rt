@@ -1,7 +1,7 @@
 // What is wrong with a problem, a buffer, a network or a text.
 
 // A refusal, with what it names.
-#[derive(Clone, Copy)]
+#[derive(Clone, Copy, PartialEq, Eq)]
 pub enum Refusal {
     // the number of inputs is 0 or above 10
     Inputs,

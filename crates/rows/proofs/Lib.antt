@@ -1,4 +1,3 @@
 pub mod Narrowing
 pub mod Splitting
-pub mod Members
 pub mod Filling

@@ -1,2 +1,1 @@
 pub mod Sets
-pub mod Members

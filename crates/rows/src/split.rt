@@ -5,9 +5,10 @@ ghost use Rattle.blocks.specs.Blocks.{stride, allowed_to};
 ghost use Rattle.rows.specs.Sets.{Split};
 
 use crate::narrow::narrow;
+use cube::inputs::Inputs;
 use cube::mask::Cube;
 
-// The rows of the other set leave.
+// The rows of the other set leave. Not by `zip`, as in `narrow_by`.
 fn remove(set: &mut [u64], other: &[u64])
     requires { length other.now ≡ length set.old }
     ensures { (b : ℕ) → b < length other.now → get_or set.new b 0 ≡ bit_xor (get_or set.old b 0) (bit_and (get_or set.old b 0) (get_or other.now b 0)) }
@@ -18,9 +19,9 @@ fn remove(set: &mut [u64], other: &[u64])
 }
 
 // Those of the set that allow the cube's digits, and the set without them.
-pub fn split(n: usize, columns: &[u64], c: Cube, set: &mut [u64], taken: &mut [u64])
-    requires { (n ≤ 10) × (length set.old ≤ stride columns.now) × (length taken.old ≡ length set.old) }
-    ensures { Split (λ k. allowed_to columns.now k c n) set.old set.new taken.new }
+pub fn split(n: Inputs, columns: &[u64], c: Cube, set: &mut [u64], taken: &mut [u64])
+    requires { (length set.old ≤ stride columns.now) × (length taken.old ≡ length set.old) }
+    ensures { Split (λ k. allowed_to columns.now k c n.count) set.old set.new taken.new }
 {
     taken.copy_from_slice(set);
     narrow(n, columns, c, taken);

@@ -6,32 +6,36 @@ use mathlib.Core.List.{List}
 use Rattle.std.specs.Prelude.{None}
 use Prim.Native.Nat.{ℕ, ◌+◌, ◌*◌, ◌^◌, ◌<◌}
 use lib.Dec.{T}
+use lib.ListN.{get_or}
 use Rattle.hazard.specs.Cube.{has, span}
 use Rattle.hazard.specs.Transition.{start, end, count}
 use Rattle.hazard.specs.Refusal.{defined_check}
 use Rattle.hazard.proofs.Cube.{→has, span_left, span_right}
 use Rattle.hazard.proofs.Rules.{defined_all, defined_value}
 use Rattle.cube.specs.PointSet.{in_set}
-use Rattle.context.specs.Places.{zeros_in, ones_in}
-use Rattle.context.specs.Context.{table_in, defined_at, Planes}
+use Rattle.context.specs.declared.planes.Planes.{Planes}
+use Rattle.context.specs.Context.{table_in, defined_at}
 use Rattle.context.proofs.Values.{table-value}
-use Rattle.kinds.specs.Ready.{Listed, Ready}
+use Rattle.kinds.specs.Listed.{Listed}
+use Rattle.kinds.specs.Ready.{Ready}
 
 has_value : (z o : Bool) → ◌≢◌ {A = ℕ} (cond z 0 (cond o 1 2)) 2 → T (z || o)
 has_value true o h = tt
 has_value false true h = tt
 has_value false false h = h refl
 
-pub defined_ready : {n : ℕ} {w ts : List ℕ} → Planes n w → Listed n ts → defined_check n (table_in n w) ts ≡ None → Ready n w ts
-defined_ready {n} {w} {ts} p l e =
+pub defined_ready : (p : Planes) (n : ℕ) (ts : List ℕ) → p.n.count ≡ n → Listed n ts → defined_check p.n.count (table_in p) ts ≡ None → Ready p n ts
+defined_ready p n ts e l none =
     record {
-      planes = p;
-      listed = l;
-      from = λ k i. defined k i (start ts k) (l.within (2 * k)) (→has (span_left n (start ts k) (end ts k)));
-      to = λ k i. defined k i (end ts k) (l.within (2 * k + 1)) (→has (span_right n (start ts k) (end ts k)));
+      same = e;
+      from = λ k i. defined k i (start ts k) (within (2 * k)) (→has (span_left p.n.count (start ts k) (end ts k)));
+      to = λ k i. defined k i (end ts k) (within (2 * k + 1)) (→has (span_right p.n.count (start ts k) (end ts k)));
     }
   where
-    defined : (k : ℕ) → k < count ts → (x : ℕ) → x < 2 ^ n → T (has (span n (start ts k) (end ts k)) x) → T (defined_at w x)
+    within : (i : ℕ) → get_or ts i 0 < 2 ^ p.n.count
+    within i = rw e (l.within i)
+
+    defined : (k : ℕ) → k < count ts → (x : ℕ) → x < 2 ^ p.n.count → T (has (span p.n.count (start ts k) (end ts k)) x) → T (defined_at p x)
     defined k i x h t =
-        has_value (in_set (zeros_in w) x) (in_set (ones_in w) x)
-        (λ v. defined_value n (table_in n w) (start ts k) (end ts k) (defined_all n (table_in n w) ts e k i) x h t (table-value n w x h ∙ v))
+        has_value (in_set p.zeros.words x) (in_set p.ones.words x)
+        (λ v. defined_value p.n.count (table_in p) (start ts k) (end ts k) (defined_all p.n.count (table_in p) ts none k i) x h t (table-value p x h ∙ v))

@@ -1,6 +1,5 @@
 -- Check 7 for a kind that is given.
-use Rattle.std.specs.Prelude.{◌&&◌, List, ℕ, ◌^◌}
-use Rattle.std.specs.Prelude.{Option}
+use Rattle.std.specs.Prelude.{◌&&◌, List, ℕ, ◌^◌, Option}
 use Rattle.hazard.specs.Search.{first}
 use Rattle.hazard.specs.Cube.{has, span}
 use Rattle.hazard.specs.Transition.{Kind, function_hazard}

@@ -20,8 +20,8 @@ use Rattle.cube.specs.declared.mask.Cube as masks
 use Rattle.cube.specs.Mask.{digit, digits_of, cube_of, Clean, Stands}
 use Rattle.cube.specs.Entry.{privileged_in, Packed, cube_in}
 use Rattle.cube.proofs.Word.{packed_is, packed_clean}
-use Rattle.context.specs.Places.{privileged_words}
-use Rattle.context.specs.Context.{off_in, privileged_of}
+use Rattle.context.specs.declared.context.Context.{Context}
+use Rattle.context.specs.Context.{off_in, privileged_words, privileged_of}
 use Rattle.expand.specs.declared.growth.Grown as code
 use Rattle.expand.specs.declared.growth.Grown.TheVariants as variants
 use Rattle.expand.specs.Answer.{grown_of, LegalClean, Grows}
@@ -43,9 +43,12 @@ masks_digits (suc n) care value = cons (digit-small care value) (masks_digits n 
 pub words_wide : (n : ℕ) (ws : List ℕ) → Wide n (map (privileged_in n) ws)
 words_wide n ws v m = let (w, u, e) = Memᴰ.of_map (privileged_in n) ws m in subst (λ (x : Privileged). Digits n x.cube) e (masks_digits n _ _)
 
-module _ (n : ℕ) (context : List ℕ) where
+module _ (context : Context) where
+  abbrev n : ℕ
+  n = context.n.count
+
   abbrev pub vs : List Privileged
-  vs = privileged_of n context
+  vs = privileged_of context
 
   pub wide : Wide n vs
   wide = words_wide n (privileged_words context)
@@ -57,10 +60,10 @@ module _ (n : ℕ) (context : List ℕ) where
   →dhf : (c : masks.Cube) → Dhf n (off_in context) vs (cube_of n c) → T (dhf_implicant n (off_in context) vs (cube_of n c))
   →dhf c d = (dhf-is n (off_in context) vs wide (masks_digits n c.care c.value)).1 d
 
-  pub over-same : {c : masks.Cube} → Clean n c → Over n (off_in context) vs c c
+  pub over-same : {c : masks.Cube} → Clean n c → Over context c c
   over-same {c} h = record { fits = h; dhf = λ t. t; around = λ t. →inside (inside_refl (cube_of n c)) }
 
-  pub over-absorb : (c d : masks.Cube) {r : masks.Cube} → Stands n r (absorb n (off_in context) vs (cube_of n c) (cube_of n d)) → Over n (off_in context) vs c r
+  pub over-absorb : (c d : masks.Cube) {r : masks.Cube} → Stands n r (absorb n (off_in context) vs (cube_of n c) (cube_of n d)) → Over context c r
   over-absorb c d {r} s = record { fits = s.fits; dhf = λ t. →dhf r (both t).0; around = λ t. →inside (both t).1 }
     where
       both : T (dhf_implicant n (off_in context) vs (cube_of n c)) → Dhf n (off_in context) vs (cube_of n r) × Inside (cube_of n c) (cube_of n r)
@@ -73,7 +76,7 @@ module _ (n : ℕ) (context : List ℕ) where
     pub around : T (inside c (cube_of n p))
 
   -- It begins with a cube that growth ended legal with.
-  pub stage_legal : {c : Cube} {g : code.Grown} {d : masks.Cube} {s : ℕ} → Digits n c → Grows n context c g → g ≡ variants.Legal d s → Stage c d
+  pub stage_legal : {c : Cube} {g : code.Grown} {d : masks.Cube} {s : ℕ} → Digits n c → Grows context c g → g ≡ variants.Legal d s → Stage c d
   stage_legal {c} {g} {d} {s} k h e =
       let i : Legal (cube_of n d) s ≡ grow n (off_in context) vs c = sym (ap (grown_of n) e) ∙ h.is in
       let t = ended (subst (Ends n (off_in context) vs c) (sym i) (grow_ends n (off_in context) vs wide k)) in
@@ -85,11 +88,11 @@ module _ (n : ℕ) (context : List ℕ) where
   pub stage_start : {c : masks.Cube} → Clean n c → T (dhf_implicant n (off_in context) vs (cube_of n c)) → Stage (cube_of n c) c
   stage_start {c} h t = record { fits = h; dhf = t; around = →inside (inside_refl (cube_of n c)) }
 
-  pub stage_step : {c : Cube} {p r : masks.Cube} → Stage c p → Over n (off_in context) vs p r → Stage c r
+  pub stage_step : {c : Cube} {p r : masks.Cube} → Stage c p → Over context p r → Stage c r
   stage_step {c} {p} {r} s o =
       record { fits = o.fits; dhf = o.dhf s.dhf; around = →inside (inside_trans (inside→ c (cube_of n p) s.around) (inside→ (cube_of n p) (cube_of n r) (o.around s.dhf))) }
 
-  pub stage_end : {c : Cube} {p r : masks.Cube} → Stage c p → Stands n r (expand n (off_in context) vs (cube_of n p)) → PrimeOver n (off_in context) vs c r
+  pub stage_end : {c : Cube} {p r : masks.Cube} → Stage c p → Stands n r (expand n (off_in context) vs (cube_of n p)) → PrimeOver context c r
   stage_end {c} {p} {r} s t =
       let d = dhf→ p s.dhf in
       record {
@@ -99,17 +102,17 @@ module _ (n : ℕ) (context : List ℕ) where
       }
 
   -- A dhf-prime around a stage is one around the stage's cube.
-  pub stage_prime : {c : Cube} {p r : masks.Cube} → Stage c p → PrimeOver n (off_in context) vs (cube_of n p) r → PrimeOver n (off_in context) vs c r
+  pub stage_prime : {c : Cube} {p r : masks.Cube} → Stage c p → PrimeOver context (cube_of n p) r → PrimeOver context c r
   stage_prime {c} {p} {r} s h =
       record { fits = h.fits; prime = h.prime; around = →inside (inside_trans (inside→ c (cube_of n p) s.around) (inside→ (cube_of n p) (cube_of n r) h.around)) }
 
   -- The product packed into a word.
-  pub product-word : (v : ℕ) {w t : ℕ} {r : masks.Cube} → PrimeOver n (off_in context) vs (cube_in n v) r → Packed w t 0 r.care r.value → PrimeWord n (off_in context) vs w × T (inside (cube_in n v) (cube_in n w))
+  pub product-word : (v : ℕ) {w t : ℕ} {r : masks.Cube} → PrimeOver context (cube_in n v) r → Packed w t 0 r.care r.value → PrimeWord n (off_in context) vs w × T (inside (cube_in n v) (cube_in n w))
   product-word v {w} {r} h p =
       let s : Stands n r (cube_of n r) = record { fits = h.fits; is = refl } in
       let e : cube_in n w ≡ cube_of n r = packed_is p s in
       (record { prime = rw e h.prime; clean = packed_clean p s (pow_pos n) }, rw e h.around)
 
   -- And the word's cube is the product's.
-  pub product-cube : {c : Cube} {w t : ℕ} {r : masks.Cube} → PrimeOver n (off_in context) vs c r → Packed w t 0 r.care r.value → cube_in n w ≡ cube_of n r
+  pub product-cube : {c : Cube} {w t : ℕ} {r : masks.Cube} → PrimeOver context c r → Packed w t 0 r.care r.value → cube_in n w ≡ cube_of n r
   product-cube {r = r} h p = packed_is p (record { fits = h.fits; is = refl })

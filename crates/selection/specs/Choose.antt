@@ -1,6 +1,5 @@
 -- What the forward choice leaves.
-use Rattle.std.specs.Prelude.{◌≡◌, Bool, List, map, ℕ, ◌≤◌, ◌<◌, length, get_or, take}
-use Rattle.std.specs.Prelude.{Option, None, Some, Result, Ok, Err}
+use Rattle.std.specs.Prelude.{◌≡◌, Bool, List, map, ℕ, ◌≤◌, ◌<◌, length, get_or, take, Option, None, Some, Result, Ok, Err}
 use Rattle.hazard.specs.Search.{first_of}
 use Rattle.hazard.specs.Sets.{Required, Privileged}
 use Rattle.hazard.specs.Implicant.{DhfPrime}
@@ -8,6 +7,8 @@ use Rattle.hazard.specs.Refusal.{Refusal}
 use Rattle.hazard.specs.Minimal.{block_check}
 use Rattle.cube.specs.Entry.{required_in, CleanWord, cube_in}
 use Rattle.refusal.specs.Answer.{refusal_of}
+use Rattle.context.specs.declared.context.Context.{Context}
+use Rattle.context.specs.Context.{off_in, privileged_of}
 use Rattle.choice.specs.Keep.{Noted}
 use Rattle.refusal.specs.declared.refusal.Refusal as code
 
@@ -27,7 +28,8 @@ pub record Chosen (n : ℕ) (off : ℕ → Bool) (vs : List Privileged) (require
   pub good : (k : ℕ) → k < m → PrimeWord n off vs (get_or products k 0)
 
 -- The choice's answer: no required cube blocks, and m products are chosen; or the refusal of the first that blocks.
-abbrev pub Choice : ℕ → (ℕ → Bool) → List Privileged → (required firsts products : List ℕ) → Result ℕ code.Refusal → Type 0
-Choice n off vs required firsts products (Ok m) =
-    (blocking_of n off vs (map (required_in n) required) ≡ None) × Chosen n off vs required firsts products m
-Choice n off vs required firsts products (Err q) = blocking_of n off vs (map (required_in n) required) ≡ Some (refusal_of q)
+abbrev pub Choice : Context → (required firsts products : List ℕ) → Result ℕ code.Refusal → Type 0
+Choice k required firsts products (Ok m) =
+    (blocking_of k.n.count (off_in k) (privileged_of k) (map (required_in k.n.count) required) ≡ None)
+    × Chosen k.n.count (off_in k) (privileged_of k) required firsts products m
+Choice k required firsts products (Err q) = blocking_of k.n.count (off_in k) (privileged_of k) (map (required_in k.n.count) required) ≡ Some (refusal_of q)

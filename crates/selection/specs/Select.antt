@@ -1,7 +1,6 @@
 -- What the choice keeps.
-use Rattle.std.specs.Prelude.{◌≡◌, Bool, ℕ, ◌-◌, ◌≤◌, T, length, take, drop}
+use Rattle.std.specs.Prelude.{◌≡◌, Bool, ℕ, ◌-◌, ◌≤◌, T, length, take, drop, None, Some, Result, Ok, Err}
 use mathlib.Core.List.{List, Memᴰ}
-use Rattle.std.specs.Prelude.{None, Some, Result, Ok, Err}
 use Rattle.std.specs.declared.ops.Range.{Range}
 use Rattle.hazard.specs.Cube.{Cube}
 use Rattle.hazard.specs.Sets.{Required, Privileged}

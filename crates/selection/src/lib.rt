@@ -2,6 +2,7 @@
 #![tactic(auto)]
 
 pub mod choose;
+pub mod covering;
 pub mod near;
 pub mod product;
 pub mod select;

@@ -3,6 +3,7 @@ ghost use Rattle.std.specs.Prelude.{◌≤◌, ◌<◌};
 ghost use Rattle.blocks.specs.Blocks.{stride};
 
 use blocks::word::word_at;
+use cube::inputs::Inputs;
 use cube::mask::{Cube, digit_at};
 
 // The rows of block b with a literal of input i that the supercube with the cube loses.
@@ -20,13 +21,13 @@ fn losing(columns: &[u64], b: usize, c: Cube, i: usize) -> u64
 
 // The rows of block b that lose at most two literals: supercubes with the others mostly have a zero. The literals are counted for all 64
 // rows at once, in two bits each; `many` has those that lose four and more.
-pub(crate) fn near(n: usize, columns: &[u64], b: usize, c: Cube) -> u64
-    requires { (n ≤ 10) × (b < stride columns.now) }
+pub(crate) fn near(n: Inputs, columns: &[u64], b: usize, c: Cube) -> u64
+    requires { b < stride columns.now }
 {
     let mut low = 0u64;
     let mut high = 0u64;
     let mut many = 0u64;
-    for i in 0..n {
+    for i in 0..n.count {
         let lost = losing(columns, b, c, i);
         let carry = low & lost;
         low ^= lost;

@@ -3,41 +3,44 @@ ghost use Rattle.std.specs.Prelude.{map, ℕ, ◌*◌, ◌≤◌, length, get_or
 ghost use Rattle.hazard.specs.Limits.{most_required};
 ghost use Rattle.cube.specs.Entry.{required_in, CleanWord};
 ghost use Rattle.context.specs.Context.{off_in, privileged_of};
-ghost use Rattle.legality.specs.Ready.{Ready};
 ghost use Rattle.blocks.specs.Blocks.{stride};
 ghost use Rattle.selection.specs.Select.{Selects};
 
-use crate::choose::choose;
+use crate::covering::Covering;
 use blocks::fill::blocks_into;
 use choice::keep::irredundant_from;
 use columns::relation::Relation;
+use context::context::Context;
 use refusal::refusal::Refusal;
 use std::ops::Range;
 
 // Products are chosen forwards, and those that can be dropped are dropped backwards; or a required cube blocks. `columns` is room for the
 // columns of the required cubes, `firsts` for the place of each one's first product.
 pub fn select(
-    n: usize,
-    context: &[u64],
+    context: &Context,
     required: &[u64],
     columns: &mut [u64],
     firsts: &mut [u16],
     products: &mut [u64],
 ) -> Result<Range<usize>, Refusal>
-    requires ready { Ready n context.now × (length required.now ≤ most_required) × (length required.now ≤ 64 * stride columns.old) × (length required.now ≤ length firsts.old) × (length required.now ≤ length products.old) }
-    requires clean { (k : ℕ) → CleanWord n (get_or required.now k 0) }
-    ensures { Selects n (off_in context.now) (privileged_of n context.now) (map (required_in n) required.now) products.new result }
+    requires ready { (length required.now ≤ most_required) × (length required.now ≤ 64 * stride columns.old) × (length required.now ≤ length firsts.old) × (length required.now ≤ length products.old) }
+    requires clean { (k : ℕ) → CleanWord context.now.n.count (get_or required.now k 0) }
+    ensures { Selects context.now.n.count (off_in context.now) (privileged_of context.now) (map (required_in context.now.n.count) required.now) products.new result }
 {
     let count = required.len();
-    blocks_into(Relation::Inside, n, required, columns);
-    let m = choose(
-        n,
+    blocks_into(Relation::Inside, context.n, required, columns);
+    let covering = Covering {
         context,
         required,
         columns,
-        &mut firsts[0..count],
-        products,
-    )?;
-    let from = irredundant_from(n, required, columns, &firsts[0..count], &mut products[0..m]);
+    };
+    let m = covering.choose(&mut firsts[0..count], products)?;
+    let from = irredundant_from(
+        context.n,
+        required,
+        columns,
+        &firsts[0..count],
+        &mut products[0..m],
+    );
     Ok(from..m)
 }

@@ -2,87 +2,95 @@
 #![tactic(auto)]
 
 use std::io;
-use testing::calls::{answer, verdict};
+use testing::calls::{Problem, Written};
 use testing::marks::MARK;
-use testing::products::{Products, network_and_rest};
-use testing::report::{RefusalText, VerdictText};
+use testing::report::RefusalText;
 
-// The minimiser's answer, and the verifier's verdict on the network that it wrote.
-fn minimises<R: Print>(
-    rt: &R,
-    name: &str,
-    n: usize,
-    table: &[u8],
-    transitions: &[u16],
-) -> io::Result<()> {
-    let mut cover = [MARK; 32];
-    match answer(n, table, transitions, &mut cover) {
-        Err(r) => {
-            let refusal = RefusalText(r);
-            println!(rt; "{name} {refusal}")
+#[derive(Clone, Copy)]
+struct Piece<'a> {
+    name: &'a str,
+    problem: Problem<'a>,
+    // the network that is judged; with none the minimiser makes one
+    network: Option<&'a [u8]>,
+}
+
+impl<'a> Piece<'a> {
+    // The minimiser's answer, and the verifier's verdict on the network that it wrote.
+    fn minimises<R: Print>(&self, rt: &R) -> io::Result<()> {
+        let mut cover = [MARK; 32];
+        let answer = self.problem.minimised(&mut cover);
+        match answer {
+            Err(r) => {
+                let refusal = RefusalText(r);
+                println!(rt; "{refusal}")
+            }
+            Ok(written) => {
+                let Written {
+                    count,
+                    products,
+                    ..
+                } = written;
+                print!(rt; "products {count}{products}, verdict ")?;
+                self.problem.verifies(rt, products.bytes)
+            }
         }
-        Ok(count) => {
-            let (bytes, _) = network_and_rest(n, count, &cover);
-            let products = Products { n, bytes };
-            let verdict = VerdictText(verdict(n, table, transitions, bytes));
-            println!(rt; "{name} products {count}{products}, verdict {verdict}")
+    }
+
+    fn run<R: Print>(&self, rt: &R) -> io::Result<()> {
+        let name = self.name;
+        print!(rt; "{name} ")?;
+        if let Some(network) = self.network {
+            self.problem.verifies(rt, network)
+        } else {
+            self.minimises(rt)
         }
     }
 }
 
-// The verifier's verdict on a network.
-fn verifies<R: Print>(
-    rt: &R,
-    name: &str,
-    n: usize,
-    table: &[u8],
-    transitions: &[u16],
-    network: &[u8],
-) -> io::Result<()> {
-    let verdict = VerdictText(verdict(n, table, transitions, network));
-    println!(rt; "{name} {verdict}")
-}
-
-// K4, K5 and K6 have one table and one transition.
-fn static_transition<R: Print>(rt: &R, table: &[u8], transitions: &[u16]) -> io::Result<()> {
-    minimises(rt, "K4", 3, table, transitions)?;
-    verifies(rt, "K5", 3, table, transitions, &[1, 2, 0, 2, 1, 1])?;
-    verifies(
-        rt,
-        "K6",
-        3,
+fn problem<'a>(n: usize, table: &'a [u8], transitions: &'a [u16]) -> Problem<'a> {
+    Problem {
+        n,
         table,
         transitions,
-        &[1, 2, 0, 2, 1, 1, 1, 1, 2],
-    )
+    }
 }
 
-// K7 and K9 have one table and two transitions.
-fn two_transitions<R: Print>(rt: &R, table: &[u8], transitions: &[u16]) -> io::Result<()> {
-    minimises(rt, "K7", 3, table, transitions)?;
-    minimises(rt, "K8", 3, &[0, 2, 1, 1, 1, 2, 1, 2], &[2, 3, 6, 0])?;
-    verifies(
-        rt,
-        "K9",
-        3,
-        table,
-        transitions,
-        &[2, 1, 0, 0, 1, 2, 0, 2, 1],
-    )
+fn minimised<'a>(name: &'a str, problem: Problem<'a>) -> Piece<'a> {
+    Piece {
+        name,
+        problem,
+        network: None,
+    }
 }
 
-// K11 and K12 have one table and one transition.
-fn small_networks<R: Print>(rt: &R, table: &[u8], transitions: &[u16]) -> io::Result<()> {
-    minimises(rt, "K10", 1, &[1, 2], &[0, 1])?;
-    verifies(rt, "K11", 2, table, transitions, &[2, 2])?;
-    verifies(rt, "K12", 2, table, transitions, &[])
+fn verified<'a>(name: &'a str, problem: Problem<'a>, network: &'a [u8]) -> Piece<'a> {
+    Piece {
+        name,
+        problem,
+        network: Some(network),
+    }
 }
 
 fn main(rt: HostRuntime) -> io::Result<()> {
-    minimises(&rt, "K1", 1, &[1, 1], &[0, 1])?;
-    minimises(&rt, "K2", 2, &[1, 1, 1, 0], &[0, 3])?;
-    minimises(&rt, "K3", 2, &[0, 1, 1, 1], &[1, 2])?;
-    static_transition(&rt, &[0, 1, 0, 1, 0, 0, 1, 1], &[3, 7])?;
-    two_transitions(&rt, &[0, 2, 1, 1, 1, 2, 1, 0], &[2, 7, 6, 0])?;
-    small_networks(&rt, &[1, 1, 1, 0], &[0, 3])
+    let static_one = problem(3, &[0, 1, 0, 1, 0, 0, 1, 1], &[3, 7]);
+    let two_transitions = problem(3, &[0, 2, 1, 1, 1, 2, 1, 0], &[2, 7, 6, 0]);
+    let fall = problem(2, &[1, 1, 1, 0], &[0, 3]);
+    let pieces = [
+        minimised("K1", problem(1, &[1, 1], &[0, 1])),
+        minimised("K2", fall),
+        minimised("K3", problem(2, &[0, 1, 1, 1], &[1, 2])),
+        minimised("K4", static_one),
+        verified("K5", static_one, &[1, 2, 0, 2, 1, 1]),
+        verified("K6", static_one, &[1, 2, 0, 2, 1, 1, 1, 1, 2]),
+        minimised("K7", two_transitions),
+        minimised("K8", problem(3, &[0, 2, 1, 1, 1, 2, 1, 2], &[2, 3, 6, 0])),
+        verified("K9", two_transitions, &[2, 1, 0, 0, 1, 2, 0, 2, 1]),
+        minimised("K10", problem(1, &[1, 2], &[0, 1])),
+        verified("K11", fall, &[2, 2]),
+        verified("K12", fall, &[]),
+    ];
+    for piece in &pieces {
+        piece.run(&rt)?;
+    }
+    Ok(())
 }

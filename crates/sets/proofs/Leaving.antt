@@ -2,13 +2,11 @@
 use mathlib.Core.Path.{◌≡◌, refl, sym, ap, ap₂, ◌∙◌}
 use mathlib.Core.Bool.{Bool, true, false, not, ◌||◌, ◌&&◌, and-true, or-false}
 use mathlib.Core.List.{List, map}
-use Prim.Native.Nat.{ℕ, ◌+◌, ◌/◌, ◌%◌, ◌^◌, ◌<◌}
+use Prim.Native.Nat.{ℕ, ◌+◌, ◌^◌, ◌<◌}
 use native.Mathlib.Nat.{zero-add}
 use native.Mathlib.Numerals.{add-one}
 use native.Mathlib.Omega.{arith}
-use lib.Bits.{bit_and, bit_xor}
-use lib.Dec.{eqb, ltb}
-use lib.ListN.{length, get_or, replicate}
+use lib.Dec.{ltb}
 use lib.Pow.{pow_mono}
 use borrow.Author.Tests.{lt-ltb}
 use Rattle.hazard.specs.Search.{found, first}
@@ -18,15 +16,12 @@ use Rattle.hazard.specs.Transition.{start, end, count, visits, visited}
 use Rattle.hazard.specs.Sets.{Required, unvisited, single_points, of_points}
 use Rattle.hazard.proofs.Search.{any_more}
 use Rattle.cube.specs.PointSet.{in_set}
-use Rattle.cube.proofs.WordMask.{no_bit, less_test}
-use Rattle.cube.proofs.Sweep.{all_same}
 use Rattle.points.specs.Union.{Joined}
 use Rattle.points.proofs.Members.{those-same}
-use Rattle.context.specs.Places.{ones_in}
-use Rattle.context.specs.Context.{table_in, Planes}
+use Rattle.context.specs.declared.planes.Planes.{Planes}
+use Rattle.context.specs.Context.{table_in}
 use Rattle.context.proofs.Values.{plane_ones, table-length}
 use Rattle.context.proofs.PlaneWord.{plane_in}
-use Rattle.sets.specs.Unvisited.{Unvisited}
 
 -- The first t transitions visit the point.
 abbrev pub visited_by : ℕ → List ℕ → ℕ → ℕ → Bool
@@ -60,29 +55,24 @@ visiting_more n ts t {before} {set} {after} h {c} e j =
     regroup false true false false = refl
     regroup false false h l = refl
 
--- An empty set has no point.
-pub none_in : (k x : ℕ) → in_set (replicate k 0) x ≡ false
-none_in k x = ap (λ (y : ℕ). eqb y 1) (no_bit (get_or (replicate k 0) (x / 64) 0) (x % 64) (all_same k (x / 64) 0))
+-- All of them, from a set without points.
+pub visited_all : (n : ℕ) (ts : List ℕ) (t : ℕ) (before after : List ℕ) → Visiting n ts t before after → count ts ≡ t → ((x : ℕ) → in_set before x ≡ false) → (x : ℕ) → x < 1024 → in_set after x ≡ (visited n ts x && ltb x (2 ^ n))
+visited_all n ts t before after h e none x l =
+    h.is x l ∙ ap₂ (λ (a : Bool) (k : ℕ). a || (visited_by n ts k x && ltb x (2 ^ n))) (none x) (sym e)
 
--- What a set leaves of the ones in word w.
-abbrev pub left_word : List ℕ → List ℕ → ℕ → ℕ
-left_word ones set w = bit_xor (get_or ones w 0) (bit_and (get_or ones w 0) (get_or set w 0))
-
-pub left-unvisited : {n : ℕ} {w ts : List ℕ} {ones set out : List ℕ} → Planes n w → ones ≡ ones_in w → Visiting n ts (count ts) (replicate 16 0) set → length out ≡ 16
-    → ((u : ℕ) → u < 16 → get_or out u 0 ≡ left_word ones set u) → Unvisited n (table_in n w) ts out
-left-unvisited {n} {w} {ts} {ones} {set} {out} p e v long h =
-    record {
-      long = long;
-      is = λ x l.
-          let b : x < 1024 = omega (arith, pow_mono {j = 10} p.few) in
-          ap (λ (y : ℕ). eqb (bit y (x % 64)) 1) (h (x / 64) (omega arith)) ∙ less_test (get_or ones (x / 64) 0) (get_or set (x / 64) 0) (x % 64)
-          ∙ ap₂ (λ (o s : Bool). o && not s) (ap (λ (k : List ℕ). in_set k x) e ∙ plane_in (plane_ones p) x (omega (arith, table-length n w))) (seen x l b);
-    }
+-- What a set leaves of the ones.
+pub left-unvisited : (planes : Planes) (n : ℕ) (ts set out : List ℕ) → planes.n.count ≡ n → ((x : ℕ) → x < 1024 → in_set set x ≡ (visited n ts x && ltb x (2 ^ n)))
+    → ((x : ℕ) → in_set out x ≡ (in_set planes.ones.words x && not (in_set set x))) → (x : ℕ) → x < 2 ^ planes.n.count → in_set out x ≡ unvisited planes.n.count (table_in planes) ts x
+left-unvisited planes n ts set out e seen left x l =
+    left x ∙ ap₂ (λ (o s : Bool). o && not s) (plane_in (plane_ones planes) x (omega (arith, l, table-length planes))) all
   where
-    seen : (x : ℕ) → x < 2 ^ n → x < 1024 → in_set set x ≡ visited n ts x
-    seen x l b = v.is x b ∙ ap₂ (λ (a c : Bool). a || (visited n ts x && c)) (none_in 16 x) (lt-ltb x (2 ^ n) l) ∙ and-true (visited n ts x)
+    below : x < 2 ^ n
+    below = rw (← e) l
+
+    all : in_set set x ≡ visited planes.n.count ts x
+    all = seen x (omega (arith, l, pow_mono {j = 10} planes.n.few)) ∙ ap (λ (b : Bool). visited n ts x && b) (lt-ltb x (2 ^ n) below) ∙ and-true (visited n ts x) ∙ ap (λ (m : ℕ). visited m ts x) (sym e)
 
 -- So they are the single points.
-pub left_points : {n : ℕ} {f ts words : List ℕ} → Unvisited n f ts words → single_points n (count ts) (in_set words) ≡ of_points n f ts
-left_points {n} {f} {ts} {words} u =
-    ap (map {B = Required} (λ x. record { transition = count ts; label = x; cube = span n x x })) (those-same (in_set words) (unvisited n f ts) 0 (2 ^ n) (λ x a b. u.is x (omega arith)))
+pub left_points : (n : ℕ) (f ts words : List ℕ) → ((x : ℕ) → x < 2 ^ n → in_set words x ≡ unvisited n f ts x) → single_points n (count ts) (in_set words) ≡ of_points n f ts
+left_points n f ts words u =
+    ap (map {B = Required} (λ x. record { transition = count ts; label = x; cube = span n x x })) (those-same (in_set words) (unvisited n f ts) 0 (2 ^ n) (λ x a b. u x (omega arith)))

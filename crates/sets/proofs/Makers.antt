@@ -1,7 +1,6 @@
 -- What the makers' walks find are the definitions' labels and points.
 use mathlib.Core.Path.{◌≡◌, refl, sym, ap, ◌∙◌, subst}
 use mathlib.Core.Bool.{Bool, true, not, ◌&&◌}
-use mathlib.Core.List.{List}
 use Prim.Native.Nat.{ℕ, ◌^◌, ◌≤◌}
 use lib.Bits.{bit_xor, and_zero_r}
 use lib.Dec.{eqb}
@@ -19,15 +18,17 @@ use Rattle.points.specs.Walk.{visits, Walks}
 use Rattle.points.proofs.Agree.{Agrees, walk_agrees}
 use Rattle.moves.specs.Turn.{lasts}
 use Rattle.moves.proofs.Agree.{lasts_agree}
-use Rattle.context.specs.Places.{ones_in}
-use Rattle.context.specs.Context.{table_in, Planes}
+use Rattle.context.specs.declared.planes.Planes.{Planes}
+use Rattle.context.specs.Context.{table_in}
 use Rattle.context.proofs.Values.{table-length, plane_ones}
 
 -- Labels: the points of [S,E] in the plane of 1 with no move further into it.
-pub labels_agree : {n : ℕ} {w : List ℕ} → Planes n w → (s e : ℕ) {c : Cube} → Stands n c (span n s e) → {walk : Walk} → Walks n walk (has (cube_of n c)) → Agrees (λ x. visits walk x && lasts n (in_set (ones_in w)) s e x) (maximal_label n (table_in n w) s e) (2 ^ n)
-labels_agree {n} {w} p s e st {walk} k =
-    subst (λ (ds : digits.Cube). Agrees (λ x. visits walk x && lasts n (in_set (ones_in w)) s e x) (λ x. has ds x && (eqb (value (table_in n w) x) 1 && not (further n (table_in n w) s e x 1))) (2 ^ n)) st.is
-    (walk_agrees k p.few (lasts_agree n (table-length n w) s e (plane_ones p)))
+pub labels_agree : (p : Planes) (s e : ℕ) {c : Cube} → Stands p.n.count c (span p.n.count s e) → {walk : Walk} → Walks p.n.count walk (has (cube_of p.n.count c))
+    → Agrees (λ x. visits walk x && lasts p.n.count (in_set p.ones.words) s e x) (maximal_label p.n.count (table_in p) s e) (2 ^ p.n.count)
+labels_agree p s e st {walk} k =
+    let n = p.n.count in
+    subst (λ (ds : digits.Cube). Agrees (λ x. visits walk x && lasts n (in_set p.ones.words) s e x) (λ x. has ds x && (eqb (value (table_in p) x) 1 && not (further n (table_in p) s e x 1))) (2 ^ n)) st.is
+    (walk_agrees k p.n.few (lasts_agree n (table-length p) s e (plane_ones p)))
 
 -- The cube without literals has every point.
 has_all : (n x : ℕ) → has (digits_of n 0 0) x ≡ true

@@ -1,110 +1,81 @@
-// The required cubes, by their three makers: those of a dynamic transition, that of a static one, and single points of a set.
-ghost use Rattle.std.specs.Prelude.{◌≡◌, [], ◌∷◌, ◌++◌, map, ◌+◌, ◌^◌, ◌≤◌, ◌<◌, length};
+// The required cubes, by their makers: those of a dynamic transition, that of a static one, and single points of a set.
+ghost use Rattle.std.specs.Prelude.{◌≡◌, ◌++◌, map, ◌+◌, ◌^◌, ◌≤◌, ◌<◌, length};
 ghost use Rattle.hazard.specs.Search.{those};
-ghost use Rattle.hazard.specs.Transition.{count, Kind};
+ghost use Rattle.hazard.specs.Transition.{count};
 ghost use Rattle.hazard.specs.Sets.{maximal_label, single_points, of_transitions};
 ghost use Rattle.cube.specs.Entry.{required_in};
 ghost use Rattle.cube.specs.PointSet.{in_set};
-ghost use Rattle.context.specs.Context.{table_in, Planes};
+ghost use Rattle.context.specs.Context.{table_in};
 ghost use Rattle.kinds.specs.Codes.{kind_is};
-ghost use Rattle.kinds.specs.Ready.{Ready};
 ghost use Rattle.entries.specs.Store.{Stored, required_to};
 ghost use Rattle.sets.specs.Held.{Held, required_by};
 
-use context::places::ones;
+use context::planes::Planes;
+use cube::inputs::Inputs;
 use cube::mask::{Cube, span_of};
-use entries::store::{store, word_into};
+use entries::required::{store, word_into};
+use entries::store::Store;
 use kinds::kind::{Kind, kind_of};
-use kinds::transition::{Transition, transition_at};
+use kinds::problem::Problem;
+use kinds::transition::Transition;
 use moves::turn::last_points;
-use points::walk::{steps_of, walk_over};
-use points::word::set_points;
+use points::over::walk_over;
+use points::set::PointSet;
+use points::steps::steps_of;
 
 // Those of a dynamic transition t, between its start point s and the labels of [S,E], in order of label.
-fn dynamic_into(
-    n: usize,
-    context: &[u64],
-    t: u16,
-    s: u16,
-    e: u16,
-    out: &mut [u64],
-    at: usize,
-) -> usize
-    requires planes { Planes n context.now × (s < 2 ^ n) × (e < 2 ^ n) }
-    requires room { at + length (those (maximal_label n (table_in n context.now) s e) 0 (2 ^ n)) ≤ 2 ^ 32 }
-    ensures { Stored n (required_in n) out.old out.new at result (map (required_to n t s) (those (maximal_label n (table_in n context.now) s e) 0 (2 ^ n))) }
+fn dynamic_into(planes: &Planes, t: u16, s: u16, e: u16, out: &mut Store)
+    requires ends { (s < 2 ^ planes.now.n.count) × (e < 2 ^ planes.now.n.count) }
+    requires room { out.old.next + length (those (maximal_label planes.now.n.count (table_in planes.now) s e) 0 (2 ^ planes.now.n.count)) ≤ 2 ^ 32 }
+    ensures same_room { out.new.room.ghost_name ≡ out.old.room.ghost_name }
+    ensures stored { Stored planes.now.n.count (required_in planes.now.n.count) out.old.room.now out.new.room.now out.old.next out.new.next (map (required_to planes.now.n.count t s) (those (maximal_label planes.now.n.count (table_in planes.now) s e) 0 (2 ^ planes.now.n.count))) }
 {
-    let mut k = at;
-    for step in steps_of(walk_over(n, span_of(n, s, e))) {
-        let labels = last_points(n, ones(context), s, e, step);
-        k = word_into(n, t, Some(s), step.word, labels, out, k);
+    for step in steps_of(walk_over(planes.n, span_of(planes.n, s, e))) {
+        let labels = last_points(planes.n, &planes.ones, s, e, step);
+        word_into(planes.n, t, Some(s), step.word, labels, out);
     }
-    k
-}
-
-// That of a static transition t from 1 to 1: [A,B], with the label b.
-fn static_into(n: usize, t: u16, a: u16, b: u16, out: &mut [u64], at: usize) -> usize
-    requires { (n ≤ 10) × (a < 2 ^ n) × (b < 2 ^ n) × (at < 2 ^ 32) }
-    ensures { Stored n (required_in n) out.old out.new at result (required_to n t a b ∷ []) }
-{
-    store(n, t, a, b, out, at)
 }
 
 // The points of a set, each a required cube of its own, in ascending order, with t for their transition. Its loop is not shared with that of
 // the labels: what they read of a step differs, and a closure for it would have a contract longer than the loop.
-fn points_into(n: usize, t: u16, set: &[u64], out: &mut [u64], at: usize) -> usize
-    requires { (n ≤ 10) × (length set.now ≡ 16) × (at + 1024 ≤ 2 ^ 32) }
-    ensures { Stored n (required_in n) out.old out.new at result (single_points n t (in_set set.now)) }
+fn points_into(n: Inputs, t: u16, set: &PointSet, out: &mut Store)
+    requires { out.old.next + 1024 ≤ 2 ^ 32 }
+    ensures same_room { out.new.room.ghost_name ≡ out.old.room.ghost_name }
+    ensures stored { Stored n.count (required_in n.count) out.old.room.now out.new.room.now out.old.next out.new.next (single_points n.count t (in_set set.now.words)) }
 {
-    let mut k = at;
     for step in steps_of(walk_over(n, Cube { care: 0, value: 0 })) {
-        let points = set_points(set, step);
-        k = word_into(n, t, None, step.word, points, out, k);
+        let points = set.points_at(step);
+        word_into(n, t, None, step.word, points, out);
     }
-    k
 }
 
-// Those of transition t, which is of the kind k.
-fn transition_into(
-    n: usize,
-    context: &[u64],
-    k: Kind,
-    t: u16,
-    transition: Transition,
-    out: &mut [u64],
-    at: usize,
-) -> usize
-    requires planes { Planes n context.now × (transition.start < 2 ^ n) × (transition.end < 2 ^ n) }
-    requires room { at + length (required_by n (table_in n context.now) (kind_is k) t transition.start transition.end) ≤ 2 ^ 32 }
-    ensures { Stored n (required_in n) out.old out.new at result (required_by n (table_in n context.now) (kind_is k) t transition.start transition.end) }
+// Those of transition t, which is of the kind k. A match on the kind: each has a maker of its own, or none.
+fn transition_into(planes: &Planes, k: Kind, t: u16, ends: Transition, out: &mut Store)
+    requires ends { (ends.start < 2 ^ planes.now.n.count) × (ends.end < 2 ^ planes.now.n.count) }
+    requires room { out.old.next + length (required_by planes.now.n.count (table_in planes.now) (kind_is k) t ends.start ends.end) ≤ 2 ^ 32 }
+    ensures same_room { out.new.room.ghost_name ≡ out.old.room.ghost_name }
+    ensures stored { Stored planes.now.n.count (required_in planes.now.n.count) out.old.room.now out.new.room.now out.old.next out.new.next (required_by planes.now.n.count (table_in planes.now) (kind_is k) t ends.start ends.end) }
 {
-    let Transition { start, end } = transition;
     match k {
-        Kind::Low => at,
-        Kind::Rise => dynamic_into(n, context, t, end, start, out, at),
-        Kind::Fall => dynamic_into(n, context, t, start, end, out, at),
-        Kind::High => static_into(n, t, start, end, out, at),
+        Kind::Low => {}
+        Kind::Rise => dynamic_into(planes, t, ends.end, ends.start, out),
+        Kind::Fall => dynamic_into(planes, t, ends.start, ends.end, out),
+        Kind::High => store(planes.n, t, ends.start, ends.end, out),
     }
 }
 
 // The required cubes of the transitions, in order of transition and label, and after them the points of the set that is handed in; how
 // many. As many are stored as there is room for.
-pub fn required_into(
-    n: usize,
-    context: &[u64],
-    transitions: &[u16],
-    singles: &[u64],
-    out: &mut [u64],
-) -> usize
-    requires { Ready n context.now transitions.now × (length singles.now ≡ 16) }
-    ensures { Held n (required_in n) out.old out.new result (of_transitions n (table_in n context.now) transitions.now ++ single_points n (count transitions.now) (in_set singles.now)) }
+pub fn required_into(problem: &Problem, singles: &PointSet, out: &mut [u64]) -> usize
+    ensures { Held problem.now.planes.n.count (required_in problem.now.planes.n.count) out.old out.new result (of_transitions problem.now.planes.n.count (table_in problem.now.planes) problem.now.transitions.list.now ++ single_points problem.now.planes.n.count (count problem.now.transitions.list.now) (in_set singles.now.words)) }
 {
-    let count = transitions.len() / 2;
-    let mut k = 0;
+    let count = problem.transitions.count();
+    let mut store = Store { room: out, next: 0 };
     for t in 0..count {
-        let transition = transition_at(transitions, t);
-        let kind = kind_of(context, transition.start, transition.end);
-        k = transition_into(n, context, kind, t as u16, transition, out, k);
+        let ends = problem.transitions.at(t);
+        let kind = kind_of(&problem.planes.ones, ends);
+        transition_into(&problem.planes, kind, t as u16, ends, &mut store);
     }
-    points_into(n, count as u16, singles, out, k)
+    points_into(problem.planes.n, count as u16, singles, &mut store);
+    store.next
 }

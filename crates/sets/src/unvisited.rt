@@ -1,36 +1,32 @@
 // The 1s that no transition visits: each is a required cube of its own.
-ghost use Rattle.std.specs.Prelude.{◌≡◌, ◌&&◌, ◌^◌, ltb, length};
+ghost use Rattle.std.specs.Prelude.{◌≡◌, ℕ, ◌&&◌, ◌^◌, ◌<◌, ltb};
 ghost use Rattle.hazard.specs.Transition.{visited};
-ghost use Rattle.points.specs.Union.{Joined};
-ghost use Rattle.context.specs.Context.{table_in, Planes};
-ghost use Rattle.kinds.specs.Ready.{Listed};
-ghost use Rattle.sets.specs.Unvisited.{Unvisited};
+ghost use Rattle.hazard.specs.Sets.{unvisited};
+ghost use Rattle.cube.specs.PointSet.{in_set};
+ghost use Rattle.context.specs.Context.{table_in};
 
-use context::places::ones;
+use context::planes::Planes;
 use cube::mask::span_of;
-use kinds::transition::transition_at;
-use points::union::cube_into;
+use kinds::transitions::Transitions;
+use points::set::PointSet;
 
 // The points that some transition visits: the union of the cubes [A,B].
-fn visited_into(n: usize, transitions: &[u16], set: &mut [u64])
-    requires { Listed n transitions.now × (length set.old ≡ 16) }
-    ensures { Joined (λ x. visited n transitions.now x && ltb x (2 ^ n)) set.old set.new }
+fn visited(transitions: Transitions) -> PointSet
+    ensures { (x : ℕ) → x < 1024 → in_set result.words x ≡ (visited transitions.entry.n.count transitions.entry.list.now x && ltb x (2 ^ transitions.entry.n.count)) }
 {
-    for t in 0..transitions.len() / 2 {
-        let transition = transition_at(transitions, t);
-        cube_into(n, span_of(n, transition.start, transition.end), set);
+    let mut set = PointSet::empty();
+    for t in 0..transitions.count() {
+        let ends = transitions.at(t);
+        set.join_cube(transitions.n, span_of(transitions.n, ends.start, ends.end));
     }
+    set
 }
 
 // What they leave of the ones.
-pub fn unvisited_into(n: usize, context: &[u64], transitions: &[u16], out: &mut [u64])
-    requires { Planes n context.now × Listed n transitions.now × (length out.old ≡ 16) }
-    ensures { Unvisited n (table_in n context.now) transitions.now out.new }
+pub fn unvisited(planes: &Planes, transitions: Transitions) -> PointSet
+    requires { planes.now.n.count ≡ transitions.n.count }
+    ensures { (x : ℕ) → x < 2 ^ planes.now.n.count → in_set result.words x ≡ unvisited planes.now.n.count (table_in planes.now) transitions.entry.list.now x }
 {
-    let mut visited = [0u64; 16];
-    visited_into(n, transitions, &mut visited);
-    let ones = ones(context);
-    for w in 0..16 {
-        out[w] = ones[w] ^ (ones[w] & visited[w]);
-    }
+    let seen = visited(transitions);
+    planes.ones.without(&seen)
 }

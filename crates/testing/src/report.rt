@@ -31,12 +31,24 @@ pub struct VerdictText(pub Result<Verdict, Refusal>);
 
 impl fmt::Display for VerdictText {
     fn fmt<W: fmt::Write>(&self, f: &mut fmt::Formatter<W>) -> fmt::Result {
+        // Each case has a line of its own: a match is the plainest table of them.
         match self.0 {
             Err(r) => RefusalText(r).fmt(f),
             Ok(Verdict::Passed) => write!(f, "1 passed"),
-            Ok(Verdict::HoldsZero(j, x)) => write!(f, "2 product, point: {j} {x}"),
-            Ok(Verdict::Intersects(j, k)) => write!(f, "3 product, transition: {j} {k}"),
-            Ok(Verdict::Uncovered(k, x)) => write!(f, "4 transition, label: {k} {x}"),
+            Ok(Verdict::HoldsZero { product, point }) => write!(
+                f,
+                "2 product, point: {product} {point}"
+            ),
+            Ok(
+                Verdict::Intersects {
+                    product,
+                    transition,
+                },
+            ) => write!(f, "3 product, transition: {product} {transition}"),
+            Ok(Verdict::Uncovered { transition, label }) => write!(
+                f,
+                "4 transition, label: {transition} {label}"
+            ),
         }
     }
 }

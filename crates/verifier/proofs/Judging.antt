@@ -1,5 +1,5 @@
 -- What the conditions say of the stored sets and products, they say of the problem's and the network's.
-use mathlib.Core.Path.{◌≡◌, sym, ap, ap₂, ◌∙◌}
+use mathlib.Core.Path.{◌≡◌, sym, ap, ap₂, ◌∙◌, subst}
 use mathlib.Core.Bool.{Bool}
 use mathlib.Core.List.{List, map}
 use Prim.Native.Nat.{ℕ, ◌-◌, ◌/◌, ◌≤◌}
@@ -7,17 +7,22 @@ use native.Mathlib.Nat.{sub-zero}
 use native.Mathlib.Omega.{arith}
 use lib.ListN.{length, get_or, take, length-map}
 use lib.Seq.{take_all}
-use Rattle.hazard.specs.Sets.{Privileged, required}
+use Rattle.hazard.specs.Transition.{off}
+use Rattle.hazard.specs.Sets.{Privileged, Required, required, privileged}
 use Rattle.hazard.specs.Cover.{Network}
 use Rattle.hazard.specs.Verdict as spec
 use Rattle.hazard.proofs.Verdict.{products-length}
 use Rattle.cube.specs.Entry.{required_in, CleanWord, cube_in, network_in}
+use Rattle.cube.specs.declared.inputs.Inputs.{Inputs}
+use Rattle.cube.specs.PointSet.{in_set}
 use Rattle.cube.proofs.Word.{taken-clean}
+use Rattle.points.specs.declared.set.PointSet.{PointSet}
 use Rattle.context.specs.Context.{off_in, privileged_of, table_in}
 use Rattle.context.proofs.Values.{off-table}
-use Rattle.checks.specs.Problem.{Problem}
+use Rattle.checks.specs.declared.checked.Checked.{Checked}
 use Rattle.network_bytes.specs.Network.{Read}
-use Rattle.verifier.specs.Judge.{fault_of}
+use Rattle.verifier.specs.declared.claim.Claim.{Claim}
+use Rattle.verifier.specs.Judge.{fault_of, claim_fault}
 
 -- The words that were read, handed on as a part from 0.
 module _ {n : ℕ} {bytes words : List ℕ} {m : ℕ} (read : Read n bytes words m) where
@@ -33,10 +38,45 @@ module _ {n : ℕ} {bytes words : List ℕ} {m : ℕ} (read : Read n bytes words
   pub read_is : network_in n (take (m - 0) words) ≡ spec.products n bytes
   read_is = ap (λ (k : ℕ). network_in n (take k words)) (sub-zero m) ∙ read.is
 
--- The problem's sets are those of its context.
-module _ {n : ℕ} {ts w few : List ℕ} {k : ℕ} (p : Problem n (table_in n w) ts w few k) where
-  pub problem-fault : (net : Network) → fault_of n (off_in w) (privileged_of n w) (required n (table_in n w) ts) net ≡ spec.fault n (table_in n w) ts net
-  problem-fault net = ap₂ (λ (o : ℕ → Bool) (vs : List Privileged). fault_of n o vs (required n (table_in n w) ts) net) (off-table p.ready.planes) p.privileged'
+-- A claim's network, read as words.
+module _ (claim : Claim) {words : List ℕ} {m : ℕ} (read : Read claim.network.n.count claim.network.bytes.now words m) where
+  pub claim_clean : (i : ℕ) → CleanWord claim.context.now.n.count (get_or (take (m - 0) words) i 0)
+  claim_clean = subst (λ (n : Inputs). (i : ℕ) → CleanWord n.count (get_or (take (m - 0) words) i 0)) (sym claim.same) (read_clean read)
 
-  pub problem-few : k ≤ length few → map (required_in n) (take (k - 0) few) ≡ required n (table_in n w) ts
-  problem-few l = ap (λ (j : ℕ). map (required_in n) (take j few)) (sub-zero k) ∙ p.few' ∙ take_all (length few) (required n (table_in n w) ts) (omega (arith, l, p.count'))
+  pub claim_judged : let n = claim.context.now.n.count in
+      fault_of n (off_in claim.context.now) (privileged_of claim.context.now) (map (required_in n) claim.required.now) (network_in n (take (m - 0) words)) ≡ claim_fault claim
+  claim_judged =
+      let fault : ℕ → Network → spec.Verdict = λ n net. fault_of n (off_in claim.context.now) (privileged_of claim.context.now) (map (required_in n) claim.required.now) net in
+      ap (λ (n : Inputs). fault n.count (network_in n.count (take (m - 0) words))) claim.same ∙ ap (fault claim.network.n.count) (read_is read)
+
+-- The sets of a checked problem are its table's.
+module _ (k : Checked) where
+  abbrev table : List ℕ
+  table = table_in k.problem.planes
+
+  abbrev list : List ℕ
+  list = k.problem.transitions.list.now
+
+  off-is : off_in k.context ≡ off table
+  off-is = ap (λ (s : PointSet). in_set s.words) k.sets.off' ∙ off-table k.problem.planes
+
+  -- The first fault by its sets is the problem's.
+  pub checked-fault : (m : Inputs) → m ≡ k.problem.planes.n → (words bytes : List ℕ) → map (required_in k.problem.planes.n.count) words ≡ required k.problem.planes.n.count table list
+      → fault_of m.count (off_in k.context) (privileged_of k.context) (map (required_in m.count) words) (spec.products m.count bytes) ≡ spec.fault m.count table list (spec.products m.count bytes)
+  checked-fault m e words bytes r = subst faults (sym e) (ap₂ (λ (o : ℕ → Bool) (vs : List Privileged). fault o vs (map (required_in n) words)) off-is k.sets.privileged' ∙ ap (fault (off table) (privileged n table list)) r)
+    where
+      n : ℕ
+      n = k.problem.planes.n.count
+
+      faults : Inputs → Type 0
+      faults m =
+          fault_of m.count (off_in k.context) (privileged_of k.context) (map (required_in m.count) words) (spec.products m.count bytes)
+          ≡ spec.fault m.count table list (spec.products m.count bytes)
+
+      fault : (ℕ → Bool) → List Privileged → List Required → spec.Verdict
+      fault o vs rs = fault_of n o vs rs (spec.products n bytes)
+
+  pub checked-few : k.count ≤ length k.few → map (required_in k.problem.planes.n.count) (take (k.count - 0) k.few) ≡ required k.problem.planes.n.count table list
+  checked-few l =
+      let n = k.problem.planes.n.count in
+      ap (λ (j : ℕ). map (required_in n) (take j k.few)) (sub-zero k.count) ∙ k.sets.few' ∙ take_all (length k.few) (required n table list) (omega (arith, l, k.sets.count'))

@@ -6,10 +6,8 @@ use Prim.Native.Nat.{ℕ}
 use Rattle.hazard.specs.Search.{first_of}
 use Rattle.hazard.specs.Refusal.{Refusal, input_checks, Accepted}
 use Rattle.hazard.specs.Verdict.{Verdict, refused, products, network_checks, fault, Verified}
-use Rattle.hazard.proofs.Search.{first_of-none, entries, first_of-left, first_of-right}
-use Rattle.hazard.proofs.Rules.{few-inputs}
-use Rattle.hazard.proofs.Verdict.{products_fit, verified, checked_well_formed}
-use Rattle.network_bytes.specs.Network.{Sound}
+use Rattle.hazard.proofs.Search.{first_of-left, first_of-right}
+use Rattle.hazard.proofs.Verdict.{verified}
 
 -- The verdict that a refusal, or none, leads to.
 abbrev judgement : ℕ → List ℕ → List ℕ → List ℕ → Option Refusal → Verdict
@@ -23,16 +21,9 @@ module _ (n : ℕ) (f ts bytes : List ℕ) where
     pub network-refused : {r : Refusal} → Some r ≡ first_of (network_checks n bytes) → Verified n f ts bytes (refused r)
     network-refused e = verified n f ts bytes (ap (judgement n f ts bytes) (e ∙ sym (first_of-right (input_checks n f ts) (network_checks n bytes) ok)))
 
-    pub network_sound : first_of (network_checks n bytes) ≡ None → Sound n bytes
-    network_sound e =
-        let (even, few) = products_fit n bytes (first_of-none (network_checks n bytes) e (search entries)) in
-        record {
-          some' = (few-inputs n f ts ok).0;
-          small = (few-inputs n f ts ok).1;
-          even = even;
-          few = few;
-          digits = checked_well_formed n f ts bytes (first_of-right (input_checks n f ts) (network_checks n bytes) ok ∙ e);
-        }
-
     pub network_judged : first_of (network_checks n bytes) ≡ None → {v : Verdict} → v ≡ fault n f ts (products n bytes) → Verified n f ts bytes v
     network_judged h e = verified n f ts bytes (e ∙ ap (judgement n f ts bytes) (sym (first_of-right (input_checks n f ts) (network_checks n bytes) ok ∙ h)))
+
+-- What is verified, said of the caller's problem.
+pub verified_as : {n m : ℕ} {f g ts us bytes : List ℕ} {v : Verdict} → m ≡ n → g ≡ f → us ≡ ts → Verified m g us bytes v → Verified n f ts bytes v
+verified_as e p q h = rw (← e, ← p, ← q) h

@@ -1,52 +1,49 @@
 // The verifier's call.
-ghost use Rattle.std.specs.Prelude.{◌≡◌};
-ghost use Rattle.hazard.specs.Refusal.{Accepted};
-ghost use Rattle.hazard.specs.Sets.{required};
-ghost use Rattle.hazard.specs.Verdict.{Verified, products};
-ghost use Rattle.context.specs.Context.{off_in, privileged_of, table_in};
-ghost use Rattle.kinds.specs.Ready as kinds;
-ghost use Rattle.legality.specs.Ready.{Ready};
-ghost use Rattle.checks.specs.Problem.{Problem};
+ghost use Rattle.std.specs.Prelude.{◌≡◌, length};
+ghost use Rattle.hazard.specs.Verdict as spec;
+ghost use Rattle.hazard.specs.Verdict.{products, Verified};
+ghost use Rattle.context.specs.Context.{table_in};
 ghost use Rattle.conditions.specs.Answer.{verdict_of, judged_of};
-ghost use Rattle.network_bytes.specs.Network.{Sound};
-ghost use Rattle.verifier.specs.Judge.{fault_of};
 
+use crate::claim::Claim;
 use crate::judge::judge;
 use checks::check::check;
-use checks::stored::{FEW, store_required};
+use checks::checked::Checked;
+use checks::stored::store_required;
 use conditions::fault::Verdict;
-use context::places::WORDS;
 use hazard::limits::MOST_REQUIRED;
 use network_bytes::check::network_checks;
+use network_bytes::network::NetworkBytes;
 use refusal::refusal::Refusal;
 
 // The verdict for a problem with so many required cubes that they are stored anew, in an array that has room for all.
-fn judge_large(n: usize, context: &[u64], transitions: &[u16], network: &[u8]) -> Verdict
-    requires { kinds.Ready n context.now transitions.now × Ready n context.now × Sound n network.now }
-    ensures { verdict_of result ≡ fault_of n (off_in context.now) (privileged_of n context.now) (required n (table_in n context.now) transitions.now) (products n network.now) }
+// The minimiser has a function like it: one for both would take what is done with the words as a closure, with a contract longer than these lines.
+fn judge_large(checked: &Checked, network: NetworkBytes) -> Verdict
+    requires { network.n ≡ checked.now.problem.planes.n }
+    ensures { verdict_of result ≡ spec.fault network.entry.n.count (table_in checked.now.problem.planes) checked.now.problem.transitions.list.now (products network.entry.n.count network.entry.bytes.now) }
 {
     let mut required = [0u64; MOST_REQUIRED];
-    let count = store_required(n, context, transitions, &mut required);
-    judge(n, context, &required[0..count], network)
+    let count = store_required(&checked.problem, &mut required);
+    judge(Claim {
+        context: &checked.context,
+        required: &required[0..count],
+        network,
+    })
 }
 
 // Checks 11 and 12, and the verdict, of a network for a problem that the input rules accept.
-fn verify_network(
-    n: usize,
-    context: &[u64],
-    transitions: &[u16],
-    few: &[u64],
-    count: usize,
-    network: &[u8],
-) -> Result<Verdict, Refusal>
-    requires { Accepted n (table_in n context.now) transitions.now × Problem n (table_in n context.now) transitions.now context.now few.now count }
-    ensures { Verified n (table_in n context.now) transitions.now network.now (judged_of result) }
+fn verify_network(checked: &Checked, network: &[u8]) -> Result<Verdict, Refusal>
+    ensures { Verified checked.now.problem.planes.n.count (table_in checked.now.problem.planes) checked.now.problem.transitions.list.now network.now (judged_of result) }
 {
-    network_checks(n, network)?;
-    if few.len() < count {
-        return Ok(judge_large(n, context, transitions, network));
+    let network = network_checks(checked.problem.planes.n, network)?;
+    if checked.few.len() < checked.count {
+        return Ok(judge_large(checked, network));
     }
-    Ok(judge(n, context, &few[0..count], network))
+    Ok(judge(Claim {
+        context: &checked.context,
+        required: &checked.few[0..checked.count],
+        network,
+    }))
 }
 
 // Whether the network is hazard-free for the table and the transitions: a refusal, or passed, or the first fault.
@@ -58,8 +55,6 @@ pub fn verify(
 ) -> Result<Verdict, Refusal>
     ensures { Verified n table.now transitions.now network.now (judged_of result) }
 {
-    let mut context = [0u64; WORDS];
-    let mut few = [0u64; FEW];
-    let count = check(n, table, transitions, &mut context, &mut few)?;
-    verify_network(n, &context, transitions, &few, count, network)
+    let checked = check(n, table, transitions)?;
+    verify_network(&checked, network)
 }

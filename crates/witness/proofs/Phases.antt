@@ -3,28 +3,21 @@ use mathlib.Core.Path.{◌≡◌, refl, sym, ap, ◌∙◌, subst}
 use mathlib.Core.Bool.{Bool, true, false}
 use mathlib.Core.List.{List, [], ◌∷◌, ◌++◌, append_assoc, append-nil}
 use Prim.Native.Nat.{ℕ, ◌+◌, ◌-◌, ◌*◌, ◌/◌, ◌≤◌, ◌<◌}
-use native.Mathlib.Numerals.{add-one}
 use native.Mathlib.Omega.{arith}
 use lib.Dec.{eqb}
 use lib.ListN.{length, set, take, drop, length-append, length-drop}
-use lib.Seq.{sets-eq, take_at, drop_at}
-use Rattle.std.proofs.lemmas.List.{drop-drop}
-use Rattle.std.proofs.lemmas.Nat.{le-div, div_below}
-use native.Mathlib.Nat.{zero-add}
+use lib.Seq.{length-take-le}
 use Rattle.hazard.specs.Cube.{Cube, bit}
 use Rattle.hazard.specs.Transition.{Kind}
 use Rattle.hazard.specs.Cover.{Network, product_at}
 use Rattle.hazard.specs.Run.{Wire}
 use Rattle.hazard.proofs.Wire.{wire}
-use Rattle.hazard.specs.Verdict.{products}
 use Rattle.hazard.specs.Shown.{numbers}
 use Rattle.hazard.specs.Pulse.{phase_of, in_phase, pulse}
 use Rattle.hazard.proofs.Point.{dig}
-use Rattle.hazard.proofs.Verdict.{products-length}
-use Rattle.writing.specs.Wrote.{Wrote}
-use Rattle.writing.proofs.Writing.{wrote_none, wrote_then, wrote_long}
-use Rattle.network_bytes.specs.Network.{Sound}
-use Rattle.network_bytes.proofs.Bytes.{products_at, place_next}
+use Rattle.writing.specs.Put.{Put}
+use Rattle.writing.proofs.Putting.{put_one, put_then}
+use borrow.Rule.Slice.PartMut.{put_mid}
 use Rattle.witness.specs.Phase.{moves, wire_if, in_phase_of}
 use Rattle.witness.specs.Shows.{Written}
 use Rattle.witness.proofs.Ahead.{passing-same, inputs_ahead, products_ahead, inputs-turn, inputs_end, products-turn, products-end}
@@ -40,137 +33,130 @@ numbers-length (w ∷ ws) = omega (arith, numbers-length ws)
 append-length : (r s : List Wire) → length (numbers (r ++ s)) ≡ length (numbers r) + length (numbers s)
 append-length r s = ap (λ (l : List ℕ). length l) (numbers-append r s) ∙ length-append (numbers r) (numbers s)
 
+put_none : (before : List ℕ) → Put before [] before 0
+put_none before = record { is = refl; counted = refl }
+
 -- One wire.
-wrote_wire : (before : List ℕ) (at j i : ℕ) → Wrote before at (numbers (wire j i ∷ [])) (set (set before at j) (at + 1) i) (at + 2)
-wrote_wire before at j i = record { is = rw add-one; place = refl }
+put_wire : {before : List ℕ} (j i : ℕ) → 2 ≤ length before → Put before (numbers (wire j i ∷ [])) (set (set before 0 j) 1 i) 2
+put_wire {before} j i h = put_one i (put_one j (put_none before) (omega arith)) (omega arith)
 
 -- Part of the wires is written, the others are left.
-pub record Writing (whole : List Wire) (before : List ℕ) (at : ℕ) (left : List Wire) (out : List ℕ) (next : ℕ) : Type 0 where
+pub record Writing (whole : List Wire) (before : List ℕ) (left : List Wire) (out : List ℕ) (next : ℕ) : Type 0 where
   pub done : List Wire
   pub split : done ++ left ≡ whole
-  pub wrote : Wrote before at (numbers done) out next
+  pub put : Put before (numbers done) out next
 
-module _ (whole : List Wire) (before : List ℕ) (at : ℕ) where
+-- The buffer keeps its length.
+pub put_long : {before out numbers : List ℕ} {next : ℕ} → Put before numbers out next → next ≤ length before → length out ≡ length before
+put_long {before} {numbers = numbers} p h = rw p.is (length-append numbers (drop (length numbers) before) ∙ rw length-drop (omega (arith, p.counted)))
+
+-- As much room is left as was not taken.
+pub put_rest : {before mid numbers : List ℕ} {k m : ℕ} → Put before numbers mid k → k + m ≤ length before → m ≤ length (take (length mid - k) (drop k mid))
+put_rest {mid = mid} {k = k} p h = omega (arith, put_long p (omega arith), length-take-le (length mid - k) (drop k mid) (omega (arith, length-drop k mid)))
+
+module _ (whole : List Wire) (before : List ℕ) where
   -- All are left; none are left; what is left, said otherwise.
-  pub writing_start : Writing whole before at whole before at
-  writing_start = record { done = []; split = refl; wrote = wrote_none before at }
+  pub writing_start : Writing whole before whole before 0
+  writing_start = record { done = []; split = refl; put = put_none before }
 
-  pub writing_end : {out : List ℕ} {next : ℕ} → Writing whole before at [] out next → Wrote before at (numbers whole) out next
-  writing_end s = rw (sym (append-nil s.done) ∙ s.split) at s.wrote
+  pub writing_end : {out : List ℕ} {next : ℕ} → Writing whole before [] out next → Put before (numbers whole) out next
+  writing_end s = rw (sym (append-nil s.done) ∙ s.split) at s.put
 
-  pub writing_as : {l m : List Wire} {out : List ℕ} {next : ℕ} → l ≡ m → Writing whole before at l out next → Writing whole before at m out next
-  writing_as {out = out} {next = next} e s = subst (λ (r : List Wire). Writing whole before at r out next) e s
+  pub writing_as : {l m : List Wire} {out : List ℕ} {next : ℕ} → l ≡ m → Writing whole before l out next → Writing whole before m out next
+  writing_as {out = out} {next = next} e s = subst (λ (r : List Wire). Writing whole before r out next) e s
 
-  -- More of them are written.
-  pub writing_more : (r : List Wire) {left : List Wire} {mid out : List ℕ} {k next : ℕ} → Writing whole before at (r ++ left) mid k → Wrote mid k (numbers r) out next → Writing whole before at left out next
+  -- More of them are written, into the rest of the buffer.
+  pub writing_more : (r : List Wire) {left : List Wire} {mid rest : List ℕ} {k m : ℕ} → Writing whole before (r ++ left) mid k → Put (take (length mid - k) (drop k mid)) (numbers r) rest m
+      → Writing whole before left (put_mid k (length mid - k) mid rest) (k + m)
   writing_more r {left} s w =
       record {
         done = s.done ++ r;
         split = append_assoc s.done r left ∙ s.split;
-        wrote = rw (numbers-append s.done r) (wrote_then s.wrote w);
+        put = rw (numbers-append s.done r) (put_then s.put w);
       }
 
   -- There is room for more where there is room for all.
-  pub writing_room : (r left : List Wire) {out : List ℕ} {next : ℕ} → Writing whole before at (r ++ left) out next → at + length (numbers whole) ≤ length before
-      → next + length (numbers r) ≤ length out
-  writing_room r left s h =
-      let e : length (numbers whole) ≡ length (numbers s.done) + length (numbers (r ++ left)) = ap (λ (l : List Wire). length (numbers l)) (sym s.split) ∙ append-length s.done (r ++ left) in
-      omega (arith, s.wrote.place, wrote_long s.wrote, append-length r left)
+  module _ (r left : List Wire) {out : List ℕ} {next : ℕ} (s : Writing whole before (r ++ left) out next) (h : length (numbers whole) ≤ length before) where
+    done_and_more : next + length (numbers r) ≤ length before
+    done_and_more =
+        let e : length (numbers whole) ≡ length (numbers s.done) + length (numbers (r ++ left)) = ap (λ (l : List Wire). length (numbers l)) (sym s.split) ∙ append-length s.done (r ++ left) in
+        omega (arith, s.put.counted, append-length r left)
+
+    pub writing_place : next ≤ length out
+    writing_place = omega (arith, done_and_more, put_long s.put (omega (arith, done_and_more)))
+
+    pub writing_room : length (numbers r) ≤ length (take (length out - next) (drop next out))
+    writing_room = put_rest s.put done_and_more
 
 -- A wire that is here, and one that is not.
-module _ {here : Bool} (before : List ℕ) (at j i : ℕ) where
-  pub wire-room : here ≡ true → at + length (numbers (wire_if here j i)) ≤ length before → at + 2 ≤ length before
+module _ {here : Bool} (before : List ℕ) (j i : ℕ) where
+  pub wire-room : here ≡ true → length (numbers (wire_if here j i)) ≤ length before → 2 ≤ length before
   wire-room e h = rw e at h
 
-  pub wire_here : here ≡ true → Wrote before at (numbers (wire_if here j i)) (set (set before at j) (at + 1) i) (at + 2)
-  wire_here e = rw e (wrote_wire before at j i)
+  pub wire_here : here ≡ true → length (numbers (wire_if here j i)) ≤ length before → Put before (numbers (wire_if here j i)) (set (set before 0 j) 1 i) 2
+  wire_here e h = rw e (put_wire j i (wire-room e h))
 
-  pub wire-none : here ≡ false → Wrote before at (numbers (wire_if here j i)) before at
-  wire-none e = rw e (wrote_none before at)
+  pub wire-none : here ≡ false → Put before (numbers (wire_if here j i)) before 0
+  wire-none e = rw e (put_none before)
 
 -- The wires of product m that move in phase q: the loop over its inputs.
-module _ (k : Kind) (j a b q m : ℕ) (p : Cube) (before : List ℕ) (at : ℕ) where
+module _ (k : Kind) (j a b q m : ℕ) (p : Cube) (before : List ℕ) where
   abbrev mine : Wire → Bool
   mine w = eqb (phase_of k j b p w) q
 
   abbrev pub InputsLeft : List ℕ → ℕ → ℕ → Type 0
-  InputsLeft out next i = Writing (in_phase_of k j a b q m p) before at (inputs_ahead mine a b m p i) out next
+  InputsLeft out next i = Writing (in_phase_of k j a b q m p) before (inputs_ahead mine a b m p i) out next
 
-  pub inputs-start : InputsLeft before at 0
-  inputs-start = writing_start (in_phase_of k j a b q m p) before at
+  pub inputs-start : InputsLeft before 0 0
+  inputs-start = writing_start (in_phase_of k j a b q m p) before
 
   module _ {i : ℕ} (l : i < length p) {d : ℕ} (e : d ≡ dig p i) {here : Bool} (h : here ≡ moves k (eqb m j) q d (bit a i) (bit b i)) {mid : List ℕ} {next : ℕ} (s : InputsLeft mid next i) where
-    split : Writing (in_phase_of k j a b q m p) before at (wire_if here m i ++ inputs_ahead mine a b m p (i + 1)) mid next
-    split = writing_as (in_phase_of k j a b q m p) before at
+    split : Writing (in_phase_of k j a b q m p) before (wire_if here m i ++ inputs_ahead mine a b m p (i + 1)) mid next
+    split = writing_as (in_phase_of k j a b q m p) before
         (inputs-turn mine a b m p i l
         ∙ ap (λ (c : Bool). wire_if c m i ++ inputs_ahead mine a b m p (i + 1)) (sym (h ∙ ap (λ (x : ℕ). moves k (eqb m j) q x (bit a i) (bit b i)) e))) s
 
-    pub input-room : at + length (numbers (in_phase_of k j a b q m p)) ≤ length before → next + length (numbers (wire_if here m i)) ≤ length mid
-    input-room r = writing_room (in_phase_of k j a b q m p) before at (wire_if here m i) (inputs_ahead mine a b m p (i + 1)) split r
+    pub input-place : length (numbers (in_phase_of k j a b q m p)) ≤ length before → next ≤ length mid
+    input-place r = writing_place (in_phase_of k j a b q m p) before (wire_if here m i) (inputs_ahead mine a b m p (i + 1)) split r
 
-    pub input-turn : {out : List ℕ} {after : ℕ} → Wrote mid next (numbers (wire_if here m i)) out after → InputsLeft out after (i + 1)
-    input-turn w = writing_more (in_phase_of k j a b q m p) before at (wire_if here m i) split w
+    pub input-room : length (numbers (in_phase_of k j a b q m p)) ≤ length before → length (numbers (wire_if here m i)) ≤ length (take (length mid - next) (drop next mid))
+    input-room r = writing_room (in_phase_of k j a b q m p) before (wire_if here m i) (inputs_ahead mine a b m p (i + 1)) split r
 
-  pub inputs_wrote : {i : ℕ} → length p ≤ i → {out : List ℕ} {next : ℕ} → InputsLeft out next i → Wrote before at (numbers (in_phase_of k j a b q m p)) out next
-  inputs_wrote {i} l s = writing_end (in_phase_of k j a b q m p) before at (writing_as (in_phase_of k j a b q m p) before at (inputs_end mine a b m p i l) s)
+    pub input-turn : {out : List ℕ} {count : ℕ} → Put (take (length mid - next) (drop next mid)) (numbers (wire_if here m i)) out count → InputsLeft (put_mid next (length mid - next) mid out) (next + count) (i + 1)
+    input-turn w = writing_more (in_phase_of k j a b q m p) before (wire_if here m i) split w
+
+  pub inputs_wrote : {i : ℕ} → length p ≤ i → {out : List ℕ} {next : ℕ} → InputsLeft out next i → Put before (numbers (in_phase_of k j a b q m p)) out next
+  inputs_wrote {i} l s = writing_end (in_phase_of k j a b q m p) before (writing_as (in_phase_of k j a b q m p) before (inputs_end mine a b m p i l) s)
 
 -- The network's wires that move in phase q: the loop over the products.
-module _ (k : Kind) (j a b q : ℕ) (net : Network) (before : List ℕ) (at : ℕ) where
+module _ (k : Kind) (j a b q : ℕ) (net : Network) (before : List ℕ) where
   abbrev test : Wire → Bool
   test w = eqb (phase_of k j b (product_at net w.product) w) q
 
   abbrev pub ProductsLeft : List ℕ → ℕ → ℕ → Type 0
-  ProductsLeft out next m = Writing (in_phase k j a b net q) before at (products_ahead test a b net m) out next
+  ProductsLeft out next m = Writing (in_phase k j a b net q) before (products_ahead test a b net m) out next
 
-  pub products-start : ProductsLeft before at 0
-  products-start = writing_start (in_phase k j a b net q) before at
+  pub products-start : ProductsLeft before 0 0
+  products-start = writing_start (in_phase k j a b net q) before
 
   module _ {m : ℕ} (l : m < length net) {p : Cube} (e : p ≡ product_at net m) {mid : List ℕ} {next : ℕ} (s : ProductsLeft mid next m) where
-    split_product : Writing (in_phase k j a b net q) before at (in_phase_of k j a b q m p ++ products_ahead test a b net (m + 1)) mid next
-    split_product = writing_as (in_phase k j a b net q) before at
+    split_product : Writing (in_phase k j a b net q) before (in_phase_of k j a b q m p ++ products_ahead test a b net (m + 1)) mid next
+    split_product = writing_as (in_phase k j a b net q) before
         (products-turn test a b net m l
         ∙ ap (λ (ws : List Wire). ws ++ products_ahead test a b net (m + 1))
         (passing-same test (λ w. eqb (phase_of k j b (product_at net m) w) q) a b m 0 (product_at net m) (λ i. refl) ∙ ap (in_phase_of k j a b q m) (sym e))) s
 
-    pub product-room : at + length (numbers (in_phase k j a b net q)) ≤ length before → next + length (numbers (in_phase_of k j a b q m p)) ≤ length mid
-    product-room r = writing_room (in_phase k j a b net q) before at (in_phase_of k j a b q m p) (products_ahead test a b net (m + 1)) split_product r
+    pub product-place : length (numbers (in_phase k j a b net q)) ≤ length before → next ≤ length mid
+    product-place r = writing_place (in_phase k j a b net q) before (in_phase_of k j a b q m p) (products_ahead test a b net (m + 1)) split_product r
 
-    pub product-turn : {out : List ℕ} {after : ℕ} → Wrote mid next (numbers (in_phase_of k j a b q m p)) out after → ProductsLeft out after (m + 1)
-    product-turn w = writing_more (in_phase k j a b net q) before at (in_phase_of k j a b q m p) split_product w
+    pub product-room : length (numbers (in_phase k j a b net q)) ≤ length before → length (numbers (in_phase_of k j a b q m p)) ≤ length (take (length mid - next) (drop next mid))
+    product-room r = writing_room (in_phase k j a b net q) before (in_phase_of k j a b q m p) (products_ahead test a b net (m + 1)) split_product r
 
-  pub products_wrote : {m : ℕ} → length net ≤ m → {out : List ℕ} {next : ℕ} → ProductsLeft out next m → Wrote before at (numbers (in_phase k j a b net q)) out next
-  products_wrote {m} l s = writing_end (in_phase k j a b net q) before at (writing_as (in_phase k j a b net q) before at (products-end test a b net m l) s)
+    pub product-turn : {out : List ℕ} {count : ℕ} → Put (take (length mid - next) (drop next mid)) (numbers (in_phase_of k j a b q m p)) out count → ProductsLeft (put_mid next (length mid - next) mid out) (next + count) (m + 1)
+    product-turn w = writing_more (in_phase k j a b net q) before (in_phase_of k j a b q m p) split_product w
 
--- Product m of a network, as the chunk of its bytes that follows the first m products.
-module _ {n : ℕ} {bytes : List ℕ} (sound : Sound n bytes) (m : ℕ) (digits others : List ℕ) (parts : drop (m * n) bytes ≡ digits ++ others) (long : length digits ≡ n) where
-  place : m * n + n ≡ (m + 1) * n
-  place = place_next n (m * n) m refl
-
-  pub chunk_low : m < length bytes / n
-  chunk_low =
-      let l : length digits + length others ≡ length bytes - m * n = sym (length-append digits others) ∙ ap (λ (l : List ℕ). length l) (sym parts) ∙ length-drop (m * n) bytes in
-      let some = sound.some' in
-      let h : m + 1 ≤ length bytes / n = le-div (m + 1) (length bytes) n (omega arith) (omega (arith, l, place, long)) in
-      omega arith
-
-  pub chunk_is : digits ≡ product_at (products n bytes) m
-  chunk_is = sym (products_at n bytes m chunk_low ∙ ap (take n) parts ∙ take_at digits others n long)
-
-  pub chunk_few : length digits ≤ 10
-  chunk_few = omega (arith, sound.small)
-
-  pub chunk_rest : others ≡ drop ((m + 1) * n) bytes
-  chunk_rest = sym (ap (λ (k : ℕ). drop k bytes) (sym place) ∙ sym (drop-drop n (m * n) bytes) ∙ ap (drop n) parts ∙ drop_at digits others n long)
-
--- With less than a product left, all are written.
-pub chunks_end : {n : ℕ} (bytes : List ℕ) (m : ℕ) → 0 < n → length (drop (m * n) bytes) < n → length (products n bytes) ≤ m
-chunks_end {n} bytes m some h =
-    let l : length bytes / n < m + 1 = div_below (length bytes) n (m + 1) some (omega (arith, length-drop (m * n) bytes, place_next n (m * n) m refl)) in
-    omega (arith, products-length n bytes)
-
--- From the beginning of the buffer on: the numbers, then the buffer's old rest.
-wrote_whole : {before after numbers : List ℕ} {next : ℕ} → Wrote before 0 numbers after next → length numbers ≤ length before → after ≡ numbers ++ drop (length numbers) before
-wrote_whole {before} {numbers = numbers} p h = p.is ∙ sets-eq numbers before 0 (omega arith) ∙ rw zero-add
+  pub products_wrote : {m : ℕ} → length net ≤ m → {out : List ℕ} {next : ℕ} → ProductsLeft out next m → Put before (numbers (in_phase k j a b net q)) out next
+  products_wrote {m} l s = writing_end (in_phase k j a b net q) before (writing_as (in_phase k j a b net q) before (products-end test a b net m l) s)
 
 -- A run, phase after phase, from the buffer's beginning on.
 module _ (k : Kind) (j a b : ℕ) (net : Network) where
@@ -180,9 +166,12 @@ module _ (k : Kind) (j a b : ℕ) (net : Network) where
   pub phase_lengths : length (numbers (pulse k j a b net)) ≡ length (numbers (phase' 0)) + (length (numbers (phase' 1)) + length (numbers (phase' 2)))
   phase_lengths = append-length (phase' 0) (phase' 1 ++ phase' 2) ∙ ap (λ (x : ℕ). length (numbers (phase' 0)) + x) (append-length (phase' 1) (phase' 2))
 
-  pub run_written : {before mid late after : List ℕ} {i l next : ℕ} → Wrote before 0 (numbers (phase' 0)) mid i → Wrote mid i (numbers (phase' 1)) late l
-      → Wrote late l (numbers (phase' 2)) after next → 2 * length (pulse k j a b net) ≤ length before → Written (pulse k j a b net) before after (next / 2)
-  run_written {before} {after = after} {next = next} p q r h =
-      let w : Wrote before 0 (numbers (pulse k j a b net)) after next = rw (numbers-append (phase' 0) (phase' 1 ++ phase' 2), numbers-append (phase' 1) (phase' 2)) (wrote_then p (wrote_then q r)) in
-      let e = numbers-length (pulse k j a b net) in
-      record { counted = omega (arith, w.place); buffer = wrote_whole w (omega arith) ∙ rw e }
+  -- The third phase after the first two.
+  pub run_written : {before late after : List ℕ} (x y : ℕ) {z : ℕ} → Put before (numbers (phase' 0) ++ numbers (phase' 1)) late (x + y)
+      → {last : List ℕ} → Put (take (length late - (x + y)) (drop (x + y) late)) (numbers (phase' 2)) last z → after ≡ put_mid (x + y) (length late - (x + y)) late last
+      → Written (pulse k j a b net) before after ((x + y + z) / 2)
+  run_written {before} {after = after} x y {z} two r d =
+      let w : Put before (numbers (pulse k j a b net)) after (x + y + z) =
+      rw (d, numbers-append (phase' 0) (phase' 1 ++ phase' 2), numbers-append (phase' 1) (phase' 2), ← append_assoc (numbers (phase' 0)) (numbers (phase' 1)) (numbers (phase' 2))) (put_then two r) in
+      let l = numbers-length (pulse k j a b net) in
+      record { counted = omega (arith, w.counted, l); buffer = w.is ∙ rw l }

@@ -1,2 +1,3 @@
-pub mod Writing
+pub mod Putting
+pub mod Numbers
 pub mod Printing

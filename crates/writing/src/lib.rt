@@ -1,4 +1,4 @@
-// Bytes, numbers, fields and product lines, written into a buffer from a place on.
+// Bytes, numbers, fields and product lines, written to the beginning of a buffer.
 #![tactic(auto)]
 
 pub mod put;

@@ -24,7 +24,7 @@ loop-b-preserved c =
       size = same ∙ v.size;
       rest = rw next (k.1 ∙ drop-drop 64 (64 * b) rows ∙ ap (λ (y : ℕ). drop y rows) e);
       long = f.auto.columns ∙ v.long;
-      filled = rw next (filled_step v.filled low (omega (arith, low, v.long, c.requires.1)) c.in-Some.block.now f.new.columns k.0 (rw is at f.ensures));
+      filled = rw next (filled_step v.filled low (omega (arith, low, v.long, c.requires)) c.in-Some.block.now f.new.columns k.0 (rw is at f.ensures));
     }
 
 pub returns : goal.returns

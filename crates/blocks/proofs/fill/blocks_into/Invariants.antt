@@ -14,5 +14,5 @@ invariant-loop-b l =
       size : chunks_size blocks ≡ 64;
       rest : chunks_rest blocks ≡ drop (64 * b) l.rows;
       long : length l.columns ≡ length l.initial.columns;
-      filled : Filled l.rel l.n l.rows l.columns b;
+      filled : Filled l.rel l.n.count l.rows l.columns b;
     }

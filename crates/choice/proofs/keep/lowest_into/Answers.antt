@@ -1,17 +1,15 @@
-use mathlib.Core.Path.{◌≡◌}
-use Prim.Native.Nat.{◌-◌}
+use mathlib.Core.Path.{◌≡◌, ◌∙◌}
+use lib.ListN.{length}
 use native.Mathlib.Omega.{arith}
-use Rattle.choice.proofs.Lowering.{lowering_start, lowering_step, lowering_end}
+use Rattle.std.specs.Iterator.Adapters.{rev_source, enumerate_source}
+use Rattle.std.specs.Slice.Iter.{iter_rest}
+use Rattle.choice.proofs.Lowering.{lowering_step, last_of_first}
 use Rattle.choice.proofs.keep.lowest_into.Goals as goal
 
-pub loop-i-init : goal.loop-i-init
-loop-i-init c = lowering_start _ _
-
 pub loop-i-preserved : goal.loop-i-preserved
-loop-i-preserved c = lowering_step c.loop-i.invariant (omega arith) (omega (arith, c.requires.2 (c.loop-i.i - 1) (omega arith), c.requires.1))
-
-pub returns : goal.returns
-returns c =
-    let l = c.loop-i in
-    let e : l.i ≡ 0 = omega arith in
-    lowering_end (rw e at l.invariant)
+loop-i-preserved c =
+    let v = c.loop-i.invariant in
+    let (same, (gives, place, small)) = c.in-Some.ensures.steps in
+    let (long, low, is, left) = last_of_first c.args.firsts.now _ _ c.in-Some.first.now v.left gives in
+    let e : c.in-Some.i ≡ length (iter_rest (enumerate_source (rev_source c.next.new.self))) = omega (arith, place, v.from) in
+    record { from = same ∙ v.from; left = left; lowering = rw (e, is) (lowering_step (rw long at v.lowering) (omega (arith, c.requires.2 _ low, c.requires.1))) }

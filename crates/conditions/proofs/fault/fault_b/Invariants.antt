@@ -7,4 +7,4 @@ use Rattle.cube.proofs.Left.{Left}
 use Rattle.conditions.proofs.fault.fault_b.Given as goal
 
 abbrev pub invariant-loop-w : goal.invariant-loop-w
-invariant-loop-w g = (length g.rows ≡ length g.initial.rows) × Left (λ l. fault_b (map (required_in g.n) l) (network_in g.n g.products)) g.required g.w-index
+invariant-loop-w g = (length g.rows ≡ length g.initial.rows) × Left (λ l. fault_b (map (required_in g.n.count) l) (network_in g.n.count g.products)) g.required g.w-index

@@ -8,4 +8,4 @@ use Rattle.conditions.proofs.Judging.{Judging}
 use Rattle.conditions.proofs.fault.product_fault.Given as goal
 
 abbrev pub invariant-loop-j : goal.invariant-loop-j
-invariant-loop-j l = Judging (λ k. lowest_zero l.n (off_in l.context) (product_at (network_in l.n l.products) k)) (λ k. met_in l.n l.context (product_at (network_in l.n l.products) k)) (length (network_in l.n l.products)) l.j l.met
+invariant-loop-j l = Judging (λ k. lowest_zero l.context.n.count (off_in l.context) (product_at (network_in l.context.n.count l.products) k)) (λ k. met_in l.context (product_at (network_in l.context.n.count l.products) k)) (length (network_in l.context.n.count l.products)) l.j l.met

@@ -1,21 +1,15 @@
-use mathlib.Core.Path.{◌≡◌, ap, ◌∙◌}
+use mathlib.Core.Path.{refl}
+use lib.ListN.{length}
 use native.Mathlib.Omega.{arith}
-use lib.Seq.{paste, paste-zero}
-use Rattle.cube.specs.Mask.{cube_of}
-use Rattle.cube.proofs.Digits.{write_step}
+use Rattle.cube.proofs.Digits.{write_step, written}
 use Rattle.cube.proofs.bytes.write_product.Goals as goal
-
-pub loop-i-init : goal.loop-i-init
-loop-i-init c = let a = c.args in paste-zero a.out.now a.at (cube_of a.n a.c)
 
 pub loop-i-preserved : goal.loop-i-preserved
 loop-i-preserved c =
     let l = c.loop-i in
-    rw (l.invariant, c.digit_at.ensures.0) (write_step c.args.out.now c.args.at c.args.n c.args.c.care c.args.c.value l.i (omega arith) c.requires.1)
+    rw c.digit_at.ensures.0 (write_step l.out (omega arith) c.args.c.care c.args.c.value l.i (omega arith) l.invariant)
 
 pub returns : goal.returns
 returns c =
-    let a = c.args in
     let l = c.loop-i in
-    let e : l.i ≡ a.n = omega arith in
-    l.invariant ∙ ap (paste a.out.now a.at (cube_of a.n a.c)) e
+    written l.out (length c.args.out.now) c.args.c.care c.args.c.value (omega arith) (omega arith) l.invariant

@@ -6,8 +6,10 @@ use Rattle.cube.proofs.point.next.Goals as goal
 
 pub overflow_add-y : goal.overflow_add-y
 overflow_add-y c =
-    omega (arith, or_lt c.args.n c.args.x c.args.c.care c.requires.2 c.requires.1.small, pow_mono {j = 10} c.requires.0)
+    let a = c.args in
+    omega (arith, or_lt a.n.count a.x a.c.care c.requires.1 c.requires.0.small, pow_mono {j = 10} a.n.few)
 
 pub returns : goal.returns
 returns c =
-    next_is c.args.n c.args.c.care c.args.c.value c.args.x c.requires.1.small c.requires.1.clean c.requires.2 c.requires.3
+    let a = c.args in
+    next_is a.n.count a.c.care a.c.value a.x c.requires.0.small c.requires.0.clean c.requires.1 c.requires.2

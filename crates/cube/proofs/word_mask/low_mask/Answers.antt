@@ -2,14 +2,8 @@ use native.Mathlib.Omega.{arith}
 use Rattle.cube.proofs.WordMask.{widened_start, widened_more, widened_end, free-small}
 use Rattle.cube.proofs.word_mask.low_mask.Goals as goal
 
-pub loop-i-init : goal.loop-i-init
-loop-i-init c = widened_start _
-
 pub overflow_shl-m : goal.overflow_shl-m
 overflow_shl-m c = free-small c.loop-i.i (omega arith) c.args.c.care
 
 pub loop-i-preserved : goal.loop-i-preserved
 loop-i-preserved c = widened_more c.loop-i.invariant (omega arith)
-
-pub returns : goal.returns
-returns c = widened_end c.loop-i.invariant (omega arith)

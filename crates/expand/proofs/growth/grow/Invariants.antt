@@ -6,7 +6,7 @@ use Rattle.expand.proofs.Growing.{Growing}
 use Rattle.expand.proofs.growth.grow.Given as goal
 
 abbrev pub invariant-loop-steps : goal.invariant-loop-steps
-invariant-loop-steps l = Clean l.n l.cube × Growing l.n (off_in l.context) (privileged_of l.n l.context) (cube_of l.n l.cube) l.steps (grow l.n (off_in l.context) (privileged_of l.n l.context) (cube_of l.n l.initial.cube))
+invariant-loop-steps l = Clean l.context.n.count l.cube × Growing l.context.n.count (off_in l.context) (privileged_of l.context) (cube_of l.context.n.count l.cube) l.steps (grow l.context.n.count (off_in l.context) (privileged_of l.context) (cube_of l.context.n.count l.initial.cube))
 
 abbrev pub decreases-loop-steps : goal.decreases-loop-steps
-decreases-loop-steps l = l.n - l.steps
+decreases-loop-steps l = l.context.n.count - l.steps

@@ -5,4 +5,4 @@ use Rattle.expand.proofs.Raising.{Raising}
 use Rattle.expand.proofs.prime.expanded.Given as goal
 
 abbrev pub invariant-loop-i : goal.invariant-loop-i
-invariant-loop-i l = Clean l.n l.p × Raising l.n (off_in l.context) (privileged_of l.n l.context) (cube_of l.n l.p) l.i (expand l.n (off_in l.context) (privileged_of l.n l.context) (cube_of l.n l.initial.p))
+invariant-loop-i l = Clean l.context.n.count l.p × Raising l.context.n.count (off_in l.context) (privileged_of l.context) (cube_of l.context.n.count l.p) l.i (expand l.context.n.count (off_in l.context) (privileged_of l.context) (cube_of l.context.n.count l.initial.p))

@@ -1,13 +1,10 @@
 use Prim.Native.Nat.{◌+◌, ◌*◌, ◌<◌}
 use lib.ListN.{length}
 use borrow.Author.Rules.{rules}
-use Rattle.flags.proofs.Placing.{placing_start, placing_at, placing_step, placing_end}
+use Rattle.flags.proofs.Placing.{placing_at, placing_step, placing_end}
 use Rattle.flags.proofs.put.put_word.Goals as goal
 use Rattle.flags.proofs.put.put_word.Goals.{In-Some}
 use Rattle.flags.proofs.put.put_word.Given.{Over}
-
-pub loop-i-init : goal.loop-i-init
-loop-i-init g c d = rw (c.into_iter-i-iterator.ensures.into_iter_gives, c.of-i-items.ensures) (placing_start _ _ _ _ _ c.ranges.word.fits)
 
 -- The row's place lies among the places.
 low : (g : Over) (c : In-Some g) → 64 * c.args.b + c.in-Some.i < length c.loop-i.places
@@ -28,4 +25,4 @@ loop-i-preserved g c d =
     rw is (placing_step p ne (placing_at p ne c.requires.room) (rw is at next) less)
 
 pub returns : goal.returns
-returns g c d = placing_end (c.loop-i.invariant d) c.in-None.ensures.steps
+returns g c d = placing_end (c.loop-i.invariant d) c.in-None.ensures.steps.0

@@ -10,8 +10,5 @@ use Rattle.cube.proofs.Bits.{one_shl}
 use Rattle.form.proofs.Distance.{differing}
 use Rattle.form.proofs.burst.is_wide.Goals as goal
 
-pub nonzero_rem-moving : goal.nonzero_rem-moving
-nonzero_rem-moving c = omega (arith, one_shl c.args.n (omega arith), pow_pos c.args.n)
-
 pub returns : goal.returns
-returns c = let a = c.args in ap (λ (p : ℕ). ltb most_moving (ones (bit_xor a.a a.b % p))) (one_shl a.n (omega arith)) ∙ ap (ltb most_moving) (differing a.n a.a a.b)
+returns c = let a = c.args in ap (λ (p : ℕ). ltb most_moving (ones (bit_xor a.ends.start a.ends.end % p))) (one_shl a.n.count (omega arith)) ∙ ap (ltb most_moving) (differing a.n.count a.ends.start a.ends.end)

@@ -11,6 +11,6 @@ use Rattle.form.proofs.list.check_ends.Goals as goal
 
 pub returns : goal.returns
 returns c =
-    let n = c.args.n in
-    let ts = c.args.transitions.now in
+    let n = c.args.n.count in
+    let ts = c.args.list.now in
     first_tested refused_by refl (λ e q. cc) (count ts) (λ k. leb (2 ^ n) (start ts k) || leb (2 ^ n) (end ts k)) (λ k. refusal 5 k 0) c.check_each.result c.check_each.ensures (λ k l r s. search rules)

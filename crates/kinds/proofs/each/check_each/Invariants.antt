@@ -1,7 +1,7 @@
 use Prim.Native.Nat.{ℕ, ◌<◌}
 use Rattle.std.specs.Prelude.{Ok}
-use Rattle.hazard.specs.Transition.{start, end}
+use Rattle.kinds.specs.Each.{transition_in}
 use Rattle.kinds.proofs.each.check_each.Given as goal
 
 abbrev pub invariant-loop-t : goal.invariant-loop-t
-invariant-loop-t g l = (s : ℕ) → s < l.t → goal.F-post g l.check s (start l.transitions s) (end l.transitions s) (Ok tt)
+invariant-loop-t g l = (s : ℕ) → s < l.t → goal.F-post g l.check s (transition_in l.list s) (Ok tt)

@@ -1,5 +1,9 @@
+use mathlib.Core.Path.{sym, ap, ◌∙◌}
+use Prim.Native.Nat.{ℕ}
 use native.Mathlib.Omega.{arith}
-use lib.Count.{trailing_le}
+use lib.ListN.{length-take}
+use lib.Seq.{get_or-take}
+use Rattle.std.specs.Prelude.{Some}
 use Rattle.hazard.specs.Implicant.{illegal}
 use Rattle.cube.specs.Mask.{cube_of}
 use Rattle.cube.specs.Entry.{privileged_in}
@@ -9,18 +13,13 @@ use Rattle.legality.proofs.meeting.first_illegal.Goals as goal
 
 pub returns-then-rows-eq0 : goal.returns-then-rows-eq0
 returns-then-rows-eq0 c =
-    rows_find-none (illegal (cube_of c.args.n c.args.c)) (privileged_in c.args.n) c.illegal_rows-rows.ensures (few_rows c.requires) c.if-rows-eq0.true
-
-pub overflow_cast-first : goal.overflow_cast-first
-overflow_cast-first c = omega (arith, trailing_le 64 c.illegal_rows-rows.result)
-
-pub offset_bounds-privileged-first : goal.offset_bounds-privileged-first
-offset_bounds-privileged-first c = record { fits = omega (arith, trailing_le 64 c.illegal_rows-rows.result) }
-
-pub bounds-privileged-first : goal.bounds-privileged-first
-bounds-privileged-first c =
-    rw c.privileged.ensures (rows_find-low (illegal (cube_of c.args.n c.args.c)) (privileged_in c.args.n) c.illegal_rows-rows.ensures (few_rows c.requires) (omega arith) (λ none. omega (arith, none)))
+    let n = c.args.context.now.n.count in
+    rows_find-none (illegal (cube_of n c.args.c)) (privileged_in n) c.illegal_rows-rows.ensures (few_rows c.args.context.now) c.if-rows-eq0.true
 
 pub returns : goal.returns
 returns c =
-    rw c.privileged.ensures (rows_find (illegal (cube_of c.args.n c.args.c)) (privileged_in c.args.n) c.illegal_rows-rows.ensures (few_rows c.requires) (omega arith) (λ none. omega (arith, none)))
+    let k = c.args.context.now in
+    let rows = c.illegal_rows-rows.ensures in
+    let low = rows_find-low (illegal (cube_of k.n.count c.args.c)) (privileged_in k.n.count) rows (few_rows k) (omega arith) (λ none. omega (arith, none)) in
+    let first = rows_find (illegal (cube_of k.n.count c.args.c)) (privileged_in k.n.count) rows (few_rows k) (omega arith) (λ none. omega (arith, none)) in
+    ap (λ (w : ℕ). Some (privileged_in k.n.count w)) (sym (get_or-take k.count k.privileged _ 0 (omega (arith, low, length-take k.count k.privileged)))) ∙ first

@@ -1,35 +1,10 @@
-use mathlib.Core.Path.{sym, subst}
-use mathlib.Core.List.{List}
-use Prim.Native.Nat.{ℕ}
 use Rattle.std.proofs.lemmas.Result.{err_from_is_err_and}
-use Rattle.hazard.specs.Search.{first_of}
-use Rattle.hazard.specs.Refusal.{input_checks, Accepted}
-use Rattle.hazard.specs.Minimal.{Promise}
-use Rattle.checks.specs.Problem.{Problem}
-use Rattle.checks.proofs.Checks.{answer_accepted, answer_refused, accepted_in}
-use Rattle.selection.specs.Answer.{minimised_of}
+use Rattle.refusal.proofs.Checks.{refused}
 use Rattle.minimiser.proofs.Answering.{input-declined}
 use Rattle.minimiser.proofs.minimise.minimise.Goals as goal
-use Rattle.minimiser.proofs.minimise.minimise.Goals.{In_ok-count}
 
--- The problem is accepted, and ready.
-told : (c : In_ok-count) → let a = c.args in Accepted a.n a.table.now a.transitions.now × Problem a.n a.table.now a.transitions.now c.check.new.context c.check.new.required c.in_ok-count.count
-told c = let a = c.args in answer_accepted a.n a.table.now a.transitions.now _ _ (first_of (input_checks a.n a.table.now a.transitions.now)) c.check.ensures c.in_ok-count.was
-
-pub slice_bounds-within_room-end : goal.slice_bounds-within_room-end
-slice_bounds-within_room-end c = sym (told (goal.at.slice_bounds-within_room-end c).In_ok-count).1.legal.long
-
-pub slice_bounds-within_room-end-2 : goal.slice_bounds-within_room-end-2
-slice_bounds-within_room-end-2 c = sym (told (goal.at.slice_bounds-within_room-end-2 c).In_ok-count).1.room
-
-pub within_room-requires : goal.within_room-requires
-within_room-requires c = accepted_in (told (goal.at.within_room-requires c).In_ok-count)
-
-pub returns-in_err-count : goal.returns-in_err-count
-returns-in_err-count c =
+pub returns-in_err-checked : goal.returns-in_err-checked
+returns-in_err-checked c =
     let a = c.args in
     let p = err_from_is_err_and c.from_residual.result c.from_residual.ensures.1 in
-    rw (p.1, p.2) (input-declined a.n a.table.now a.transitions.now a.cover.now (answer_refused a.n a.table.now a.transitions.now _ _ (first_of (input_checks a.n a.table.now a.transitions.now)) c.check.ensures c.in_err-count.was))
-
-pub returns : goal.returns
-returns c = let a = c.args in subst (λ (l : List ℕ). Promise a.n l a.transitions.now a.cover.now c.within_room.new.cover (minimised_of c.within_room.result)) (told (goal.at.returns c).In_ok-count).1.table c.within_room.ensures
+    rw (p.1, p.2) (input-declined a.n a.table.now a.transitions.now a.cover.now (refused c.check.ensures.refused c.in_err-checked.was))

@@ -6,14 +6,17 @@ use Rattle.moves.proofs.further.further_word.Goals as goal
 pub loop-i-init : goal.loop-i-init
 loop-i-init c =
     let a = c.args in
-    let q = c.points_of-i-items.ensures in
-    rw (c.into_iter-i-iterator.ensures.into_iter_gives, q.0, q.1) (moving_start c.requires.0 (in_set a.set.now) a.w c.requires.2 c.requires.3)
+    rw (c.into_iter-i-iterator.ensures.into_iter_gives, c.of-i-items.ensures) (moving_start a.n.few (in_set a.set.now.words) a.w c.requires.0 c.requires.1)
 
 pub moving-word-requires : goal.moving-word-requires
-moving-word-requires c = (c.requires.1, c.requires.4, omega (arith, c.requires.0, moving_input c.loop-i.invariant c.in-Some.ensures.steps))
+moving-word-requires c =
+    let (ne, is, next, less) = c.in-Some.ensures.steps in
+    (c.requires.2, omega (arith, c.args.n.few, moving_input c.loop-i.invariant ne is next))
 
 pub loop-i-preserved : goal.loop-i-preserved
-loop-i-preserved c = moving_more c.loop-i.invariant c.in-Some.ensures.steps c.moving-word.ensures
+loop-i-preserved c =
+    let (ne, is, next, less) = c.in-Some.ensures.steps in
+    moving_more c.loop-i.invariant ne is next less c.moving-word.ensures
 
 pub returns : goal.returns
 returns c = moving_end c.loop-i.invariant c.in-None.ensures.steps.0

@@ -7,10 +7,4 @@ use Rattle.moves.proofs.further.moving.Goals as goal
 pub returns-then-i-lt6 : goal.returns-then-i-lt6
 returns-then-i-lt6 c =
     let a = c.args in
-    rw c.bit_of-from.ensures at (within_word a.set.now a.w c.bit_of-from.result c.if-i-lt6.true c.within.ensures)
-
-pub returns : goal.returns
-returns c =
-    let a = c.args in
-    let q : a.i - 6 + 6 ≡ a.i = omega arith in
-    rw (c.bit_of-from.ensures, q) at c.across.ensures
+    rw c.bit_of-from.ensures at (within_word a.set.now.words a.w c.bit_of-from.result c.if-i-lt6.true c.within.ensures)

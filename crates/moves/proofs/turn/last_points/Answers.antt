@@ -6,4 +6,4 @@ use Rattle.moves.proofs.turn.last_points.Goals as goal
 pub returns : goal.returns
 returns c =
     let a = c.args in
-    mask_but a.at.mask (in_set a.set.now) (further_in a.n (in_set a.set.now) a.s a.e) c.set_points.ensures c.turning_points.ensures
+    mask_but a.at.mask (in_set a.set.now.words) (further_in a.n.count (in_set a.set.now.words) a.s a.e) c.points_at.ensures c.turning_points.ensures

@@ -1,21 +1,47 @@
-use mathlib.Core.Path.{refl, sym, ◌∙◌}
-use native.Mathlib.Omega.{arith}
-use Rattle.cube.proofs.Scan.{scan_start, scan_hit, scan_miss, scan_end}
-use Rattle.network_bytes.proofs.Bytes.{part_bad, digits-found, digits-none}
+use mathlib.Core.Path.{◌≡◌, sym, ◌∙◌}
+use mathlib.Core.List.{◌++◌}
+use Prim.Native.Nat.{◌+◌, ◌/◌, ◌<◌}
+use lib.ListN.{length}
+use Rattle.std.specs.Iterator.Adapters.{enumerate_count, enumerate_source}
+use Rattle.std.specs.Slice.Iter.{chunks_exact_rest, chunks_exact_size}
+use Rattle.cube.proofs.Scan.{scan_hit, scan_miss, scan_end}
+use Rattle.network_bytes.proofs.Bytes.{digits-found, digits-none}
+use Rattle.network_bytes.proofs.Chunks.{cut_step, cut_end, chunk_low, chunk_bad}
 use Rattle.network_bytes.proofs.check.check_digits.Goals as goal
+use Rattle.network_bytes.proofs.check.check_digits.Goals.{In-Some}
 
-pub loop-j-init : goal.loop-j-init
-loop-j-init c = scan_start _ _
+-- The chunk that is come to is product j.
+turn : (c : In-Some)
+    → let j = enumerate_count c.loop-j.j-iterator in
+    let d = c.in-Some.product.now in
+    (c.in-Some.j ≡ j) × (enumerate_count c.next.new.self ≡ j + 1)
+    × (chunks_exact_rest (enumerate_source c.loop-j.j-iterator) ≡ d ++ chunks_exact_rest (enumerate_source c.next.new.self))
+    × (length d ≡ chunks_exact_size (enumerate_source c.loop-j.j-iterator))
+turn c =
+    let (t, is, next, fits) = c.in-Some.ensures.steps in
+    let (same, (parts, long), rem) = t in
+    (is, next, parts, long)
+
+low : (c : In-Some) → enumerate_count c.loop-j.j-iterator < length c.args.bytes.now / c.args.n.count
+low c = let t = turn c in chunk_low c.loop-j.invariant.0 c.requires.0 _ _ t.2 t.3
 
 pub returns-then-bad_product : goal.returns-then-bad_product
 returns-then-bad_product c =
     let a = c.args in
-    digits-found a.n a.bytes.now refl (scan_hit c.loop-j.invariant (omega arith) (sym (c.bad_product.ensures ∙ part_bad a.n a.bytes.now (omega arith)) ∙ c.if-bad_product.true))
+    let s = (goal.at.returns-then-bad_product c).In-Some in
+    let t = turn s in
+    digits-found a.n.count a.bytes.now (rw t.0) (scan_hit c.loop-j.invariant.1 (low s) (sym (chunk_bad c.loop-j.invariant.0 c.requires.0 _ _ t.2 t.3) ∙ sym c.bad_product.ensures ∙ c.if-bad_product.true))
 
 pub loop-j-preserved : goal.loop-j-preserved
 loop-j-preserved c =
-    let a = c.args in
-    scan_miss c.loop-j.invariant (omega arith) (sym (c.bad_product.ensures ∙ part_bad a.n a.bytes.now (omega arith)) ∙ c.if-bad_product.false)
+    let s = (goal.at.loop-j-preserved c).In-Some in
+    let t = turn s in
+    let v = c.loop-j.invariant in
+    (rw t.1 (cut_step v.0 c.requires.0 _ _ t.2 t.3 c.in-Some.ensures.steps.0.0), rw t.1 (scan_miss v.1 (low s) (sym (chunk_bad v.0 c.requires.0 _ _ t.2 t.3) ∙ sym c.bad_product.ensures ∙ c.if-bad_product.false)))
 
 pub returns : goal.returns
-returns c = digits-none c.args.n c.args.bytes.now (scan_end c.loop-j.invariant (omega arith))
+returns c =
+    let (t, same) = c.in-None.ensures.steps in
+    let (size, (none, is), rem) = t in
+    let v = c.loop-j.invariant in
+    digits-none c.args.n.count c.args.bytes.now (scan_end v.1 (cut_end v.0 c.requires.0 none))

@@ -1,25 +1,62 @@
-use mathlib.Core.Path.{refl}
+use mathlib.Core.Path.{◌≡◌, ◌∙◌}
+use mathlib.Core.List.{◌++◌}
+use Prim.Native.Nat.{◌+◌, ◌/◌, ◌<◌}
 use native.Mathlib.Omega.{arith}
-use lib.ListN.{length-set}
+use lib.ListN.{length, length-set}
 use lib.Pow.{pow_pos}
+use Rattle.std.specs.Iterator.Adapters.{enumerate_count, enumerate_source}
+use Rattle.std.specs.Slice.Iter.{chunks_exact_rest, chunks_exact_size}
 use Rattle.cube.proofs.Word.{packed_is, packed_clean}
-use Rattle.network_bytes.proofs.Bytes.{place-room, byte_le}
-use Rattle.network_bytes.proofs.Reading.{reading_start, reading_step, reading_end}
+use Rattle.network_bytes.proofs.Bytes.{byte_le}
+use Rattle.network_bytes.proofs.Chunks.{cut_step, cut_end, chunk_low, chunk_long, chunk_is}
+use Rattle.network_bytes.proofs.Reading.{reading_step, reading_end}
 use Rattle.network_bytes.proofs.read.read_network.Goals as goal
+use Rattle.network_bytes.proofs.read.read_network.Goals.{In-Some}
 
-pub loop-j-init : goal.loop-j-init
-loop-j-init c = (reading_start _ _ _, refl)
+-- The chunk that is come to is product j.
+turn : (c : In-Some)
+    → let j = enumerate_count c.loop-j.j-iterator in
+    let d = c.in-Some.product.now in
+    (c.in-Some.j ≡ j) × (enumerate_count c.next.new.self ≡ j + 1)
+    × (chunks_exact_rest (enumerate_source c.loop-j.j-iterator) ≡ d ++ chunks_exact_rest (enumerate_source c.next.new.self))
+    × (length d ≡ chunks_exact_size (enumerate_source c.loop-j.j-iterator))
+turn c =
+    let (t, is, next, fits) = c.in-Some.ensures.steps in
+    let (same, (parts, long), rem) = t in
+    (is, next, parts, long)
 
-pub product_at-requires : goal.product_at-requires
-product_at-requires c = (c.requires.0.small, place-room c.args.n c.args.bytes.now {j = c.loop-j.j} refl (omega arith), byte_le c.requires.0 {j = c.loop-j.j} refl (omega arith))
+low : (c : In-Some) → enumerate_count c.loop-j.j-iterator < length c.args.network.bytes.now / c.args.network.n.count
+low c = let t = turn c in chunk_low c.loop-j.invariant.0 c.args.network.sound.some' _ _ t.2 t.3
+
+inside : (c : In-Some) → c.in-Some.j < length c.loop-j.out
+inside c = omega (arith, (turn c).0, low c, c.loop-j.invariant.2, c.requires)
+
+pub product_of-requires : goal.product_of-requires
+product_of-requires c =
+    let k = c.args.network in
+    let s = (goal.at.product_of-requires c).In-Some in
+    let t = turn s in
+    let v = c.loop-j.invariant.0 in
+    let some = k.sound.some' in
+    let long = chunk_long v some _ _ t.2 t.3 in
+    (omega (arith, long, k.sound.small), λ i h. rw (chunk_is v some _ _ t.2 t.3) (byte_le k.sound (low s) i (omega (arith, long, h))))
 
 pub loop-j-preserved : goal.loop-j-preserved
 loop-j-preserved c =
-    let l = c.loop-j in
-    let d = c.product_at.ensures in
-    (reading_step l.invariant.0 (omega arith) (omega (arith, l.invariant.1, c.requires.0.few)) (packed_is c.pack.ensures d) (packed_clean c.pack.ensures d (pow_pos c.args.n)), simp length-set l.invariant.1)
+    let k = c.args.network in
+    let s = (goal.at.loop-j-preserved c).In-Some in
+    let t = turn s in
+    let (v, r, long) = c.loop-j.invariant in
+    let some = k.sound.some' in
+    let d = rw (chunk_long v some _ _ t.2 t.3) at c.product_of.ensures in (
+      rw t.1 (cut_step v some _ _ t.2 t.3 c.in-Some.ensures.steps.0.0),
+      rw (t.1, t.0) (reading_step r (low s) (omega (arith, t.0, inside s)) (packed_is c.pack.ensures d ∙ chunk_is v some _ _ t.2 t.3) (packed_clean c.pack.ensures d (pow_pos k.n.count))),
+      simp length-set long,
+    )
 
 pub returns : goal.returns
 returns c =
-    let l = c.loop-j in
-    reading_end l.invariant.0 (omega arith) (omega (arith, l.invariant.1, c.requires.0.few))
+    let (t, same) = c.in-None.ensures.steps in
+    let (size, (none, is), rem) = t in
+    let (v, r, long) = c.loop-j.invariant in
+    rw c.count.ensures (reading_end r (cut_end v c.args.network.sound.some' none) (omega (arith, r.low, long, c.requires)))

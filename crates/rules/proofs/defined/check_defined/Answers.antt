@@ -10,8 +10,9 @@ use Rattle.rules.proofs.defined.check_defined.Goals as goal
 
 pub returns : goal.returns
 returns c =
-    let n = c.args.n in
-    let f = table_in n c.args.context.now in
-    let ts = c.args.transitions.now in
+    let p = c.args.planes.now in
+    let n = p.n.count in
+    let f = table_in p in
+    let ts = c.args.transitions.list.now in
     first_looked refused_by refl (λ e q. cc) (count ts) (λ k. undefined_at n f (start ts k) (end ts k)) (λ p. refusal 6 p.0 p.1) c.check_each.result c.check_each.ensures
-    (λ k l r s. let u = undefined_is c.requires.0 c.dont_cares_into.ensures (start ts k) (end ts k) in search rules)
+    (λ k l r s. let u = undefined_is p c.dont_cares-twos.ensures (start ts k) (end ts k) in search rules)

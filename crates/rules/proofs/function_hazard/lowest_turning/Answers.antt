@@ -15,14 +15,11 @@ use Rattle.rules.proofs.function_hazard.lowest_turning.Goals as goal
 use Rattle.rules.proofs.function_hazard.lowest_turning.Goals.{After-into_iter-step-iterator}
 
 -- The walk goes over [A,B].
-over : (c : After-into_iter-step-iterator) → let a = c.args in lowest_on c.into_iter-step-iterator.result.walk (turns a.n (in_set a.from.now) (in_set a.to.now) a.a a.b) ≡ first (λ x. has (span a.n a.a a.b) x && turns a.n (in_set a.from.now) (in_set a.to.now) a.a a.b x) 0 (2 ^ a.n)
+over : (c : After-into_iter-step-iterator) → let a = c.args in lowest_on c.into_iter-step-iterator.result.walk (turns a.n.count (in_set a.from.now.words) (in_set a.to.now.words) a.a a.b) ≡ first (λ x. has (span a.n.count a.a a.b) x && turns a.n.count (in_set a.from.now.words) (in_set a.to.now.words) a.a a.b x) 0 (2 ^ a.n.count)
 over c =
     let a = c.args in
     rw (turning_walk c.steps_of-step-items.ensures c.into_iter-step-iterator.ensures.into_iter_gives).0
-    (lowest_agrees c.walk_over.ensures c.requires.0 (λ x l. refl) ∙ ap (λ (ds : digits.Cube). first (λ x. has ds x && turns a.n (in_set a.from.now) (in_set a.to.now) a.a a.b x) 0 (2 ^ a.n)) c.span_of.ensures.is)
-
-pub turning_points-turning-requires : goal.turning_points-turning-requires
-turning_points-turning-requires c = let p = c.requires in (p.0, p.1, p.2, p.3, p.4, c.in-Some.ensures.steps.1)
+    (lowest_agrees c.walk_over.ensures c.args.n.few (λ x l. refl) ∙ ap (λ (ds : digits.Cube). first (λ x. has ds x && turns a.n.count (in_set a.from.now.words) (in_set a.to.now.words) a.a a.b x) 0 (2 ^ a.n.count)) c.span_of.ensures.is)
 
 pub returns-then-turning-ne0 : goal.returns-then-turning-ne0
 returns-then-turning-ne0 c =

@@ -7,4 +7,4 @@ use Rattle.rules.proofs.function_hazard.lowest_turning.Given as goal
 abbrev pub invariant-loop-step : goal.invariant-loop-step
 invariant-loop-step l =
     let walk = l.initial.step-iterator.walk in
-    Turning walk (Looked walk (turns l.n (in_set l.from) (in_set l.to) l.a l.b)) l.step-iterator
+    Turning walk (Looked walk (turns l.n.count (in_set l.from.words) (in_set l.to.words) l.a l.b)) l.step-iterator

@@ -1,50 +1,34 @@
-use mathlib.Core.Path.{ap}
+use mathlib.Core.Path.{ap, ◌∙◌}
 use mathlib.Core.Bool.{cond}
 use mathlib.Core.List.{[], ◌∷◌}
-use native.Mathlib.Nat.{sub-zero}
+use Prim.Native.Nat.{◌*◌, ◌+◌, ◌<◌}
 use native.Mathlib.Omega.{arith}
 use lib.ListN.{length}
 use Rattle.hazard.specs.Transition as spec
-use Rattle.hazard.specs.Sets.{dynamic, kind_at, privileged}
-use Rattle.cube.specs.Entry.{privileged_in}
+use Rattle.hazard.specs.Sets.{dynamic, kind_at}
 use Rattle.context.specs.Context.{table_in}
-use Rattle.kinds.proofs.Coded.{listed-few, ready_ends}
-use Rattle.entries.proofs.Filling.{filling_start, filling_more, filling_end, stored_as}
+use Rattle.kinds.proofs.Coded.{few_points, ready_ends}
+use Rattle.entries.proofs.Filling.{filling_more, stored_as}
 use Rattle.sets.specs.Held.{privileged_by}
-use Rattle.sets.proofs.Gather.{held, privileged_step, privileged_done, entry_few}
+use Rattle.sets.proofs.Gather.{privileged_step, entry_few}
 use Rattle.sets.proofs.privileged.privileged_into.Goals as goal
-
-pub loop-t-init : goal.loop-t-init
-loop-t-init c = let a = c.args in (omega arith, rw sub-zero (filling_start a.n (privileged_in a.n) a.out.now 0 (privileged a.n (table_in a.n a.context.now) a.transitions.now)))
 
 pub kind_of-kind-requires : goal.kind_of-kind-requires
 kind_of-kind-requires c =
-    let r = c.requires.ready in
-    (r.planes.long, rw c.transition_at-transition.ensures.0 (listed-few r.listed (r.listed.within _)), rw c.transition_at-transition.ensures.1 (listed-few r.listed (r.listed.within _)))
-
-pub store_privileged-k-requires : goal.store_privileged-k-requires
-store_privileged-k-requires c =
-    let r = c.requires.ready in
-    let l = c.loop-t in
-    (r.planes.few, rw c.transition_at-transition.ensures.0 (r.listed.within _), rw c.transition_at-transition.ensures.1 (r.listed.within _), omega (arith, r.listed.few, c.requires.room, l.invariant.0, l.invariant.1.stored.long, c.loop-t-test.true))
+    let l = c.args.problem.now.transitions in
+    let t = c.loop-t.t in
+    (rw c.at-ends.ensures.0 (few_points l.n (l.listed.within (2 * t))), rw c.at-ends.ensures.1 (few_points l.n (l.listed.within (2 * t + 1))))
 
 pub loop-t-preserved : goal.loop-t-preserved
 loop-t-preserved c =
-    let a = c.args in
-    let f = table_in a.n a.context.now in
-    let ts = a.transitions.now in
-    let l = c.loop-t in
-    let h = c.loop-t-test.true in
-    let q = c.store_privileged-k.ensures in
-    let e = ready_ends c.requires.ready l.t h (λ k x y. cond (dynamic k) (privileged_by a.n k l.t x y ∷ []) []) c.kind_of-kind.ensures c.transition_at-transition.ensures.0 c.transition_at-transition.ensures.1 in
-    let few = entry_few (dynamic (kind_at f ts l.t)) (privileged_by a.n (kind_at f ts l.t) l.t (spec.start ts l.t) (spec.end ts l.t)) in
-    (omega (arith, q.size, ap length e, few, l.invariant.0), filling_more l.invariant.1 (stored_as e q) (privileged_step a.n f ts l.t h))
-
-pub shape_of-out : goal.shape_of-out
-shape_of-out c = c.loop-t.invariant.1.stored.long
-
-pub returns : goal.returns
-returns c =
-    let a = c.args in
-    let l = c.loop-t in
-    (omega (arith, l.invariant.0, c.requires.ready.listed.few), held (filling_end l.invariant.1 (privileged_done a.n (table_in a.n a.context.now) a.transitions.now l.t c.loop-t-test.false)))
+    let p = c.args.problem.now in
+    let n = p.planes.n.count in
+    let f = table_in p.planes in
+    let ts = p.transitions.list.now in
+    let t = c.loop-t.t in
+    let i = c.loop-t.invariant in
+    let h : t < spec.count ts = omega (arith, c.count-t-end.ensures, c.loop-t-test.true) in
+    let q = c.store_privileged.ensures in
+    let e = ready_ends p.ready p.transitions.listed t h (λ k x y. cond (dynamic k) (privileged_by n k t x y ∷ []) []) c.kind_of-kind.ensures c.at-ends.ensures.0 c.at-ends.ensures.1 in
+    let few = entry_few (dynamic (kind_at f ts t)) (privileged_by n (kind_at f ts t) t (spec.start ts t) (spec.end ts t)) in
+    (q.same_room ∙ i.0, omega (arith, q.stored.size, ap length e, few, i.1), filling_more i.2 (stored_as e q.stored) (privileged_step n f ts t h))

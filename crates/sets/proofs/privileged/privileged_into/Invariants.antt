@@ -1,3 +1,4 @@
+use mathlib.Core.Path.{◌≡◌}
 use Prim.Native.Nat.{◌-◌, ◌≤◌}
 use Rattle.hazard.specs.Transition as spec
 use Rattle.hazard.specs.Sets.{privileged, privileged_from}
@@ -7,4 +8,10 @@ use Rattle.entries.proofs.Filling.{Filling}
 use Rattle.sets.proofs.privileged.privileged_into.Given as goal
 
 abbrev pub invariant-loop-t : goal.invariant-loop-t
-invariant-loop-t l = (l.k ≤ l.t) × Filling l.n (privileged_in l.n) l.initial.out l.out 0 l.k (privileged_from l.n (table_in l.n l.context) l.transitions l.t (spec.count l.transitions - l.t)) (privileged l.n (table_in l.n l.context) l.transitions)
+invariant-loop-t l =
+    let n = l.problem.planes.n.count in
+    let f = table_in l.problem.planes in
+    let ts = l.problem.transitions.list.now in
+    (l.store.room.ghost_name ≡ l.initial.store.room.ghost_name)
+    × (l.store.next ≤ l.t)
+    × Filling n (privileged_in n) l.initial.store.room.now l.store.room.now 0 l.store.next (privileged_from n f ts l.t (spec.count ts - l.t)) (privileged n f ts)

@@ -1,29 +1,32 @@
-use mathlib.Core.Path.{ap, ◌∙◌}
-use mathlib.Core.List.{List, map}
-use Prim.Native.Nat.{ℕ, ◌≤◌}
+use mathlib.Core.Path.{◌≡◌, ap, ◌∙◌}
+use mathlib.Core.List.{map}
+use Prim.Native.Nat.{ℕ, ◌-◌, ◌≤◌}
 use native.Mathlib.Nat.{sub-zero}
 use native.Mathlib.Omega.{arith}
 use lib.ListN.{length, take}
-use Rattle.hazard.specs.Sets.{Required}
-use Rattle.hazard.specs.Verdict.{products}
+use Rattle.hazard.specs.Sets.{required}
 use Rattle.cube.specs.Entry.{required_in}
-use Rattle.context.specs.Context.{off_in, privileged_of}
+use Rattle.context.specs.Context.{table_in}
 use Rattle.sets.proofs.Gather.{held_all}
-use Rattle.checks.proofs.Checks.{ready-few}
-use Rattle.verifier.specs.Judge.{fault_of}
+use Rattle.checks.proofs.Checks.{problem-few}
+use Rattle.verifier.proofs.Judging.{checked-fault}
 use Rattle.verifier.proofs.verify.judge_large.Goals as goal
 use Rattle.verifier.proofs.verify.judge_large.Goals.{After-store_required-count}
 
 -- There is room for all required cubes.
 room : (c : After-store_required-count) → c.store_required-count.result ≤ length c.store_required-count.new.out
-room c = omega (arith, c.store_required-count.ensures.size, c.store_required-count.ensures.long, ready-few c.requires.0)
+room c =
+    let p = c.args.checked.now.problem in
+    omega (arith, c.store_required-count.ensures.size, c.store_required-count.ensures.long, problem-few p.ready p.transitions.listed)
 
-pub slice_bounds-judge-end : goal.slice_bounds-judge-end
-slice_bounds-judge-end c = room (goal.at.slice_bounds-judge-end c).After-store_required-count
+-- The part that is handed on holds them.
+all : (c : After-store_required-count) → let p = c.args.checked.now.problem in
+    let n = p.planes.n.count in
+    map (required_in n) (take (c.store_required-count.result - 0) c.store_required-count.new.out) ≡ required n (table_in p.planes) p.transitions.list.now
+all c =
+    let n = c.args.checked.now.problem.planes.n.count in
+    let q = c.store_required-count in
+    ap (λ (k : ℕ). map (required_in n) (take k q.new.out)) (sub-zero q.result) ∙ held_all q.ensures (room c)
 
 pub returns : goal.returns
-returns c =
-    let a = c.args in
-    let h = c.store_required-count.ensures in
-    c.judge.ensures
-    ∙ ap (λ (rs : List Required). fault_of a.n (off_in a.context.now) (privileged_of a.n a.context.now) rs (products a.n a.network.now)) (ap (λ (k : ℕ). map (required_in a.n) (take k c.store_required-count.new.out)) (sub-zero c.store_required-count.result) ∙ held_all h (room (goal.at.returns c).After-store_required-count))
+returns c = c.judge.ensures ∙ checked-fault c.args.checked.now c.args.network.n c.requires _ _ (all (goal.at.returns c).After-store_required-count)

@@ -1,9 +1,9 @@
 use Rattle.std.proofs.Common.{◌≡◌, ◌+◌, ◌*◌}
 use Rattle.hazard.specs.Verdict.{cut}
 use Rattle.writing.specs.Output.{product_lines}
-use Rattle.writing.specs.Wrote.{Wrote}
+use Rattle.writing.specs.Put.{Put}
 use Rattle.writing.proofs.put.put_products.Given as goal
 
--- The lines of the first j products are written.
+-- The first lines are put, each as long as a product and its end.
 abbrev pub invariant-loop-j : goal.invariant-loop-j
-invariant-loop-j l = record { wrote : Wrote l.initial.out l.at (product_lines (cut l.n l.j l.products)) l.out l.next; place : l.next ≡ l.at + l.j * (l.n + 1) }
+invariant-loop-j l = record { put : Put l.initial.out (product_lines (cut l.n l.j l.products)) l.out l.at; place : l.at ≡ l.j * (l.n + 1) }

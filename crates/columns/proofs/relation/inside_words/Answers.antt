@@ -1,5 +1,0 @@
-use Rattle.columns.proofs.Words.{inside_allowing}
-use Rattle.columns.proofs.relation.inside_words.Goals as goal
-
-pub returns : goal.returns
-returns c = inside_allowing _ _

@@ -1,0 +1,12 @@
+use Rattle.std.proofs.Common.{arith, rules}
+use Rattle.quiet_text.proofs.Reading.{read_more}
+use Rattle.quiet_text.proofs.input.read_full.Goals as goal
+
+pub loop-turn-preserved : goal.loop-turn-preserved
+loop-turn-preserved g c =
+    let l = c.loop-turn in
+    record {
+      low = omega arith;
+      within = search rules;
+      bytes = read_more _ _ _ l.room c.read.new.buf l.done c.in_ok-got.got l.invariant.within (search rules) l.invariant.bytes c.in_ok-got.ensures.bytes.0;
+    }

@@ -1,8 +1,0 @@
-use Prim.Native.Nat.{◌<◌}
-use Rattle.cube.specs.Mask.{cube_of}
-use Rattle.rows.specs.Sets.{most_words}
-use Rattle.selection.proofs.Products.{Stage}
-use Rattle.selection.proofs.product.widened.Given as goal
-
-abbrev pub invariant-loop-row : goal.invariant-loop-row
-invariant-loop-row l = Stage l.n l.context (cube_of l.n l.initial.p) l.p × (l.b < most_words)
