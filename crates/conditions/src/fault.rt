@@ -45,7 +45,7 @@ fn met_by(context: &Context, met: Option<(u16, u16)>, j: u16, c: Cube) -> Option
 }
 
 // (a) by product and then point, else (c) by product and then transition. Each product is looked at once: a zero ends the search, and the
-// first illegal intersection waits for its end.
+// first illegal intersection waits for its end. That the words are clean is a clause: they come as a lent slice, which has nothing else in it.
 fn product_fault(context: &Context, products: &[u64]) -> Verdict
     requires few { length products.now ≤ most_products }
     requires clean { (i : ℕ) → CleanWord context.now.n.count (get_or products.now i 0) }

@@ -10,7 +10,8 @@ pub struct Store<'a> {
 }
 
 impl Store<'_> {
-    // The word at the next place, if there is room.
+    // The word at the next place, if there is room. That the room is the one that was lent (`same_room`) each function says that stores: no type
+    // can say it, since a call could put another slice into the struct.
     pub fn push(&mut self, word: u64)
         requires { self.old.next < 2 ^ 32 }
         ensures same_room { self.new.room.ghost_name ≡ self.old.room.ghost_name }

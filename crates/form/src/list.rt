@@ -31,7 +31,8 @@ fn is_outside(n: Inputs, ends: Transition) -> bool
     points <= ends.start || points <= ends.end
 }
 
-// 5: an end that is no point; the first such transition.
+// 5: an end that is no point; the first such transition. That the list is short is a clause: check 4 has just said so, and the list is one of
+// `Transitions` only when check 14 has passed too.
 pub fn check_ends(n: Inputs, list: &[u16]) -> Result<(), Refusal>
     requires { count list.now ≤ 64 }
     ensures { refused_by result ≡ ends_check n.count list.now }
