@@ -4,12 +4,11 @@ use mathlib.Core.Bool.{Bool}
 use mathlib.Core.List.{List, [], ◌∷◌, ◌++◌, map}
 use Rattle.std.specs.Prelude.{Option, None, Some, Result}
 use Rattle.std.specs.declared.ops.Range.{Range}
-use Prim.Native.Nat.{ℕ, ◌-◌, ◌*◌, ◌≤◌, ◌<◌}
-use native.Mathlib.Nat.{sub-zero, mul_comm, mul-le-mul, not-le_of_lt}
+use Prim.Native.Nat.{ℕ, ◌*◌, ◌≤◌, ◌<◌}
+use native.Mathlib.Nat.{mul_comm, mul-le-mul, not-le_of_lt}
 use native.Mathlib.Omega.{arith}
 use lib.Dec.{ltb, lt→ltb, ltb→lt}
-use lib.ListN.{length, get_or, take, drop, length-map}
-use lib.Seq.{take_all}
+use lib.ListN.{length, get_or, drop, length-map}
 use Rattle.hazard.specs.Limits.{most_required, most_cover}
 use Rattle.hazard.specs.Search.{first_of}
 use Rattle.hazard.specs.Transition as transition
@@ -22,12 +21,10 @@ use Rattle.hazard.proofs.Rules.{few-inputs}
 use Rattle.hazard.proofs.Minimal.{minimal}
 use Rattle.hazard.proofs.Promise.{promise_refused, promise_written}
 use Rattle.cube.specs.Entry.{required_in, CleanWord, cube_in, network_in}
-use Rattle.cube.specs.PointSet.{in_set}
 use Rattle.cube.specs.declared.inputs.Inputs.{Inputs}
-use Rattle.points.specs.declared.set.PointSet.{PointSet}
 use Rattle.context.specs.Context.{off_in, privileged_of, table_in}
-use Rattle.context.proofs.Values.{off-table}
 use Rattle.checks.specs.declared.checked.Checked.{Checked}
+use Rattle.checks.proofs.HandedOn.{checked-off}
 use Rattle.refusal.proofs.Checks.{refuse_yes, refuse_no}
 use Rattle.refusal.specs.declared.refusal.Refusal as code
 use Rattle.selection.specs.Select.{Selects}
@@ -45,9 +42,6 @@ module _ (k : Checked) where
   abbrev list : List ℕ
   list = k.problem.transitions.list.now
 
-  off-is : off_in k.context ≡ transition.off table
-  off-is = ap (λ (s : PointSet). in_set s.words) k.sets.off' ∙ off-table k.problem.planes
-
   module _ (words : List ℕ) (r : map (required_in n) words ≡ sets.required n table list) where
     pub stored_few : length words ≡ k.count
     stored_few = sym (length-map words (required_in n)) ∙ ap length r ∙ sym k.sets.count'
@@ -63,12 +57,9 @@ module _ (k : Checked) where
     answered_for {before} {after} {a} h =
         let answer : ℕ → (ℕ → Bool) → List sets.Privileged → List sets.Required → Type 0 = λ m o vs rs. Answered m o vs rs before after a in
         let own = subst (λ (m : Inputs). answer m.count (off_in k.context) (privileged_of k.context) (map (required_in m.count) words)) k.sets.inputs h in
-        let for_off = subst (λ (o : ℕ → Bool). answer n o (privileged_of k.context) (map (required_in n) words)) off-is own in
+        let for_off = subst (λ (o : ℕ → Bool). answer n o (privileged_of k.context) (map (required_in n) words)) (checked-off k) own in
         let for_privileged = subst (λ (vs : List sets.Privileged). answer n (transition.off table) vs (map (required_in n) words)) k.sets.privileged' for_off in
         subst (λ (rs : List sets.Required). answer n (transition.off table) (sets.privileged n table list) rs) r for_privileged
-
-  pub checked-few : k.count ≤ length k.few → map (required_in n) (take (k.count - 0) k.few) ≡ sets.required n table list
-  checked-few l = ap (λ (j : ℕ). map (required_in n) (take j k.few)) (sub-zero k.count) ∙ k.sets.few' ∙ take_all (length k.few) (sets.required n table list) (omega (arith, l, k.sets.count'))
 
 -- A buffer with n bytes for each stored required cube has room for what select answers.
 pub stored_writable : (n : ℕ) (off : ℕ → Bool) (vs : List sets.Privileged) (required products cover : List ℕ) (r : Result (Range ℕ) code.Refusal) → Selects n off vs (map (required_in n) required) products r

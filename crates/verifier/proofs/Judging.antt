@@ -4,9 +4,7 @@ use mathlib.Core.Bool.{Bool}
 use mathlib.Core.List.{List, map}
 use Prim.Native.Nat.{ℕ, ◌-◌, ◌/◌, ◌≤◌}
 use native.Mathlib.Nat.{sub-zero}
-use native.Mathlib.Omega.{arith}
 use lib.ListN.{length, get_or, take, length-map}
-use lib.Seq.{take_all}
 use Rattle.hazard.specs.Transition.{off}
 use Rattle.hazard.specs.Sets.{Privileged, Required, required, privileged}
 use Rattle.hazard.specs.Cover.{Network}
@@ -14,12 +12,10 @@ use Rattle.hazard.specs.Verdict as spec
 use Rattle.hazard.proofs.Verdict.{products-length}
 use Rattle.cube.specs.Entry.{required_in, CleanWord, cube_in, network_in}
 use Rattle.cube.specs.declared.inputs.Inputs.{Inputs}
-use Rattle.cube.specs.PointSet.{in_set}
 use Rattle.cube.proofs.Word.{taken-clean}
-use Rattle.points.specs.declared.set.PointSet.{PointSet}
 use Rattle.context.specs.Context.{off_in, privileged_of, table_in}
-use Rattle.context.proofs.Values.{off-table}
 use Rattle.checks.specs.declared.checked.Checked.{Checked}
+use Rattle.checks.proofs.HandedOn.{checked-off}
 use Rattle.network_bytes.specs.Network.{Read}
 use Rattle.verifier.specs.declared.claim.Claim.{Claim}
 use Rattle.verifier.specs.Judge.{fault_of, claim_fault}
@@ -57,13 +53,10 @@ module _ (k : Checked) where
   abbrev list : List ℕ
   list = k.problem.transitions.list.now
 
-  off-is : off_in k.context ≡ off table
-  off-is = ap (λ (s : PointSet). in_set s.words) k.sets.off' ∙ off-table k.problem.planes
-
   -- The first fault by its sets is the problem's.
   pub checked-fault : (m : Inputs) → m ≡ k.problem.planes.n → (words bytes : List ℕ) → map (required_in k.problem.planes.n.count) words ≡ required k.problem.planes.n.count table list
       → fault_of m.count (off_in k.context) (privileged_of k.context) (map (required_in m.count) words) (spec.products m.count bytes) ≡ spec.fault m.count table list (spec.products m.count bytes)
-  checked-fault m e words bytes r = subst faults (sym e) (ap₂ (λ (o : ℕ → Bool) (vs : List Privileged). fault o vs (map (required_in n) words)) off-is k.sets.privileged' ∙ ap (fault (off table) (privileged n table list)) r)
+  checked-fault m e words bytes r = subst faults (sym e) (ap₂ (λ (o : ℕ → Bool) (vs : List Privileged). fault o vs (map (required_in n) words)) (checked-off k) k.sets.privileged' ∙ ap (fault (off table) (privileged n table list)) r)
     where
       n : ℕ
       n = k.problem.planes.n.count
@@ -75,8 +68,3 @@ module _ (k : Checked) where
 
       fault : (ℕ → Bool) → List Privileged → List Required → spec.Verdict
       fault o vs rs = fault_of n o vs rs (spec.products n bytes)
-
-  pub checked-few : k.count ≤ length k.few → map (required_in k.problem.planes.n.count) (take (k.count - 0) k.few) ≡ required k.problem.planes.n.count table list
-  checked-few l =
-      let n = k.problem.planes.n.count in
-      ap (λ (j : ℕ). map (required_in n) (take j k.few)) (sub-zero k.count) ∙ k.sets.few' ∙ take_all (length k.few) (required n table list) (omega (arith, l, k.sets.count'))

@@ -4,7 +4,8 @@ use native.Mathlib.Omega.{arith}
 use lib.ListN.{length}
 use Rattle.cube.proofs.Word.{taken-clean}
 use Rattle.context.specs.Context.{table_in}
-use Rattle.minimiser.proofs.Answering.{stored-clean, answered_for, checked-few, promised}
+use Rattle.checks.proofs.HandedOn.{checked-few}
+use Rattle.minimiser.proofs.Answering.{stored-clean, answered_for, promised}
 use Rattle.minimiser.proofs.minimise.within_room.Goals as goal
 
 pub returns-then-checked-gt64 : goal.returns-then-checked-gt64

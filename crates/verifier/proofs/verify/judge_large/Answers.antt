@@ -1,32 +1,13 @@
-use mathlib.Core.Path.{◌≡◌, ap, ◌∙◌}
-use mathlib.Core.List.{map}
-use Prim.Native.Nat.{ℕ, ◌-◌, ◌≤◌}
-use native.Mathlib.Nat.{sub-zero}
+use mathlib.Core.Path.{◌∙◌}
 use native.Mathlib.Omega.{arith}
-use lib.ListN.{length, take}
-use Rattle.hazard.specs.Sets.{required}
-use Rattle.cube.specs.Entry.{required_in}
-use Rattle.context.specs.Context.{table_in}
-use Rattle.sets.proofs.Gather.{held_all}
-use Rattle.checks.proofs.Checks.{problem-few}
+use Rattle.checks.proofs.HandedOn.{all-room, all-stored}
 use Rattle.verifier.proofs.Judging.{checked-fault}
 use Rattle.verifier.proofs.verify.judge_large.Goals as goal
-use Rattle.verifier.proofs.verify.judge_large.Goals.{After-store_required-count}
 
--- There is room for all required cubes.
-room : (c : After-store_required-count) → c.store_required-count.result ≤ length c.store_required-count.new.out
-room c =
-    let p = c.args.checked.now.problem in
-    omega (arith, c.store_required-count.ensures.size, c.store_required-count.ensures.long, problem-few p.ready p.transitions.listed)
-
--- The part that is handed on holds them.
-all : (c : After-store_required-count) → let p = c.args.checked.now.problem in
-    let n = p.planes.n.count in
-    map (required_in n) (take (c.store_required-count.result - 0) c.store_required-count.new.out) ≡ required n (table_in p.planes) p.transitions.list.now
-all c =
-    let n = c.args.checked.now.problem.planes.n.count in
-    let q = c.store_required-count in
-    ap (λ (k : ℕ). map (required_in n) (take k q.new.out)) (sub-zero q.result) ∙ held_all q.ensures (room c)
+pub slice_bounds-judge-end : goal.slice_bounds-judge-end
+slice_bounds-judge-end c = all-room c.args.checked.now.problem c.store_required-count.ensures (omega arith)
 
 pub returns : goal.returns
-returns c = c.judge.ensures ∙ checked-fault c.args.checked.now c.args.network.n c.requires _ _ (all (goal.at.returns c).After-store_required-count)
+returns c =
+    let k = c.args.checked.now in
+    c.judge.ensures ∙ checked-fault k c.args.network.n c.requires _ _ (all-stored k.problem c.store_required-count.ensures (omega arith))

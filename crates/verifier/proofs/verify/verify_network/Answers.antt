@@ -6,7 +6,8 @@ use Rattle.hazard.specs.Verdict.{products, fault}
 use Rattle.cube.specs.declared.inputs.Inputs.{Inputs}
 use Rattle.context.specs.Context.{table_in}
 use Rattle.refusal.proofs.Checks.{passed}
-use Rattle.verifier.proofs.Judging.{checked-fault, checked-few}
+use Rattle.checks.proofs.HandedOn.{checked-few}
+use Rattle.verifier.proofs.Judging.{checked-fault}
 use Rattle.verifier.proofs.Verifying.{network_judged}
 use Rattle.verifier.proofs.verify.verify_network.Goals as goal
 use Rattle.verifier.proofs.verify.verify_network.Goals.{In_ok-network}
