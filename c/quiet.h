@@ -7,10 +7,13 @@
  * transitions:  16-bit numbers, two for each transition: start point A, end point B. There are 0 to 64 transitions, and A and B differ in at
  *               most five inputs. With none the problem is the classical one: a network with the table's values is asked for.
  * A product is n bytes, input 0 first: 0 inverted literal, 1 plain literal, 2 absent. A network is its products one after another.
+ * Each literal has a wire: two 16-bit numbers, its product's place in the network, from 0 on, and its input. In a transition the wires of
+ * the inputs in which A and B differ move: each sees A's value first, and then, once, B's. A run is all of them in some order. Its outputs
+ * are the network's before the first wire moves and after each.
  *
  * Each slice is a pointer and a length in elements. The pointer is not null, also where the length is 0 (an empty list of transitions is
- * such a slice), and points to so many elements, which nothing else writes during the call; cover overlaps no other slice. Nothing else is
- * asked: any such arguments get an answer, and nothing outside the slices is read or written.
+ * such a slice), and points to so many elements, which nothing else writes during the call; cover and wires overlap no other slice. Nothing
+ * else is asked: any such arguments get an answer, and nothing outside the slices is read or written.
  */
 #ifndef QUIET_H
 #define QUIET_H
@@ -23,10 +26,12 @@ extern "C" {
 #endif
 
 /* The most inputs that a transition changes. No problem has more required cubes, and no network that is made more products; and the most
- * products of a network that is verified. */
+ * products of a network that is verified. Such a network has at most QUIET_MOST_WIRES literals, so a run of it has no more wires, and a
+ * buffer of 2 * QUIET_MOST_WIRES numbers is always long enough. */
 #define QUIET_MOST_MOVING 5
 #define QUIET_MOST_REQUIRED 3072
 #define QUIET_MOST_PRODUCTS 3072
+#define QUIET_MOST_WIRES (10 * QUIET_MOST_PRODUCTS)
 
 /* Refusals. The checks run in the order of this list, and the first that applies is returned. Fields that are not named are 0.
  *
@@ -46,6 +51,7 @@ extern "C" {
  *     steps of its growth, and the lowest zero that it ends at. The transition is always one of the list
  * 11  quiet_verify: network length no multiple of n, or above QUIET_MOST_PRODUCTS products
  * 12  quiet_verify: a network byte above 2: the first such product
+ * 15  quiet_verify: wire buffer shorter than 2 * n * products numbers, whatever the verdict would be
  */
 
 /* Writes a minimal hazard-free network into cover: it is 1 at every 1 of the table. n * QUIET_MOST_REQUIRED bytes are always enough. The
@@ -63,7 +69,8 @@ extern "C" {
 uint64_t quiet_minimise(size_t n, const uint8_t *table, size_t table_length, const uint16_t *transitions, size_t transitions_length,
                         uint8_t *cover, size_t cover_length);
 
-/* Whether a network is hazard-free.
+/* Whether a network is hazard-free, and where it is not, what shows the fault: a run, or a point. wires_length counts 16-bit numbers, two for
+ * each wire.
  *
  * Answer:
  *   bits  0 to  7  0 refused, 1 passed, or the condition that fails first:
@@ -73,11 +80,25 @@ uint64_t quiet_minimise(size_t n, const uint8_t *table, size_t table_length, con
  *                    transition is the number of transitions, so 0 for an empty list: transitions_length / 2 tells it from a transition
  *   bits  8 to 15  the refusal's number
  *   bits 16 to 31  product
- *   bits 32 to 47  transition
- *   bits 48 to 63  label or point
+ *   bits 32 to 38  transition
+ *   bits 39 to 48  label or point
+ *   bits 49 to 63  the number of wires written
+ *
+ * For verdict 3, and for verdict 4 at a transition of the list from 1 to 1, a run of the transition stands at the beginning of wires: every
+ * wire that moves, once, in an order whose outputs are not allowed. Allowed are, from 1 to 1, only 1s; from 1 to 0, one or more 1s and then
+ * one or more 0s; from 0 to 1, one or more 0s and then one or more 1s. Which of the runs that are not allowed it is, is free. From 1 to 1 it is
+ * empty where no wire moves, because A = B or no product has a literal on an input that moves: its one output is 0, and has to be 1.
+ *
+ * For the other faults no wire is written. Table and network differ at rest: at the point of verdict 2 the table is 0 and the network 1, at
+ * the label of verdict 4 the table is 1 and the network 0.
+ *
+ * The number of wires is 0 for an empty run as for none; the verdict and the transition tell which. Verdict 3 always has a run, which is never
+ * empty. Verdict 4 has one if its transition is below transitions_length / 2 and the table is 1 at both A and B.
+ *
+ * Numbers after the last wire keep their contents, and so does the whole buffer where there is no run, and after a refusal.
  */
 uint64_t quiet_verify(size_t n, const uint8_t *table, size_t table_length, const uint16_t *transitions, size_t transitions_length,
-                      const uint8_t *network, size_t network_length);
+                      const uint8_t *network, size_t network_length, uint16_t *wires, size_t wires_length);
 
 /* Fields of an answer of quiet_minimise. */
 #define QUIET_REFUSAL(answer) ((unsigned)((answer)&255))
@@ -91,8 +112,9 @@ uint64_t quiet_verify(size_t n, const uint8_t *table, size_t table_length, const
 #define QUIET_VERDICT(answer) ((unsigned)((answer)&255))
 #define QUIET_VERDICT_REFUSAL(answer) ((unsigned)((answer) >> 8 & 255))
 #define QUIET_VERDICT_PRODUCT(answer) ((unsigned)((answer) >> 16 & 65535))
-#define QUIET_VERDICT_TRANSITION(answer) ((unsigned)((answer) >> 32 & 65535))
-#define QUIET_VERDICT_POINT(answer) ((unsigned)((answer) >> 48 & 65535))
+#define QUIET_VERDICT_TRANSITION(answer) ((unsigned)((answer) >> 32 & 127))
+#define QUIET_VERDICT_POINT(answer) ((unsigned)((answer) >> 39 & 1023))
+#define QUIET_VERDICT_WIRES(answer) ((size_t)((answer) >> 49))
 
 #ifdef __cplusplus
 }

@@ -19,7 +19,26 @@ pub struct Counts {
     pub uncovered: u64,
     pub single_point: u64,
     pub too_wide: u64,
+    pub runs: Runs,
+    pub differences: Differences,
     pub disagreements: Disagreements,
+}
+
+// The runs that show a fault, by the kind of the transition; how many have no wire, and the most wires of one.
+#[derive(Clone, Copy, Default)]
+pub struct Runs {
+    pub rise: u64,
+    pub fall: u64,
+    pub one_to_one: u64,
+    pub empty: u64,
+    pub longest: u64,
+}
+
+// The faults that a difference of table and network at rest shows: 1s at a 0 of the table, and 0s at a 1.
+#[derive(Clone, Copy, Default)]
+pub struct Differences {
+    pub ones: u64,
+    pub zeros: u64,
 }
 
 // How often the two sides do not agree, by what they do not agree on.
@@ -37,6 +56,10 @@ pub struct Disagreements {
     pub out_of_sequence: u64,
     pub verdict: u64,
     pub fields_of_fault: u64,
+    pub run: u64,
+    pub no_run: u64,
+    pub past_the_run: u64,
+    pub at_rest: u64,
 }
 
 // One more. No count comes near the largest number.

@@ -52,6 +52,11 @@ impl Instance {
         }
     }
 
+    // Transition k, if there are so many.
+    pub(crate) fn transition(&self, k: u16) -> Option<Transition> {
+        self.transitions.get(usize::from(k)).copied()
+    }
+
     // The 1s that no transition visits.
     pub(crate) fn unvisited(&self) -> u16 {
         self.table.ones & !self.visited

@@ -2,7 +2,6 @@
 use crate::counts::{add, expect};
 use crate::network::Network;
 use crate::trial::Trial;
-use conditions::fault::Verdict;
 use refusal::refusal::Refusal;
 use std::alloc::AllocError;
 use testing::calls::Written;
@@ -61,9 +60,7 @@ impl Trial {
         let net = Network::from(products);
         self.minimal(net, count);
         expect(&mut self.counts.disagreements.past_the_end, is_marked(rest));
-        let verdict = self.instance.problem().verdict(products.bytes);
-        let passed = matches!(verdict, Ok(Verdict::Passed));
-        expect(&mut self.counts.disagreements.not_passed, passed);
+        self.passes(products.bytes);
         let in_sequence = products.in_sequence();
         expect(&mut self.counts.disagreements.out_of_sequence, in_sequence);
         net

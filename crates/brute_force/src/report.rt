@@ -1,5 +1,5 @@
 // The counts as text.
-use crate::counts::{Counts, Disagreements};
+use crate::counts::{Counts, Disagreements, Runs};
 use std::fmt;
 
 impl Disagreements {
@@ -17,6 +17,10 @@ impl Disagreements {
             self.out_of_sequence,
             self.verdict,
             self.fields_of_fault,
+            self.run,
+            self.no_run,
+            self.past_the_run,
+            self.at_rest,
         ]
         .iter()
         .fold(0, |sum: u64, count| sum.saturating_add(*count))
@@ -39,8 +43,19 @@ impl fmt::Display for Disagreements {
         )?;
         writeln!(
             f,
-            "  verdict {}, fields of a fault {}",
-            d.verdict, d.fields_of_fault
+            "  verdict {}, fields of a fault {}, run {}, wires where no run is due {}, buffer after the wires {}, difference at rest {}",
+            d.verdict, d.fields_of_fault, d.run, d.no_run, d.past_the_run, d.at_rest
+        )
+    }
+}
+
+impl fmt::Display for Runs {
+    fn fmt<W: fmt::Write>(&self, f: &mut fmt::Formatter<W>) -> fmt::Result {
+        let r = self;
+        writeln!(
+            f,
+            "runs replayed: illegal intersection at a rise {}, at a fall {}, uncovered from 1 to 1 {}; without a wire {}, wires of the longest {}",
+            r.rise, r.fall, r.one_to_one, r.empty, r.longest
         )
     }
 }
@@ -65,6 +80,13 @@ impl fmt::Display for Counts {
             c.refused, c.passed, c.holds_zero, c.intersects, c.uncovered, c.single_point
         )?;
         writeln!(f, "networks with too many wires to try {}", c.too_wide)?;
+        write!(f, "{}", c.runs)?;
+        let d = c.differences;
+        writeln!(
+            f,
+            "differences at rest: 1 at a 0 of the table {}, 0 at a 1 {}",
+            d.ones, d.zeros
+        )?;
         write!(f, "{}", c.disagreements)
     }
 }

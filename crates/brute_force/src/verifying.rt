@@ -5,6 +5,10 @@ use crate::trial::Trial;
 use conditions::fault::Verdict;
 use refusal::refusal::Refusal;
 use std::alloc::AllocError;
+use testing::marks::{WIRE_MARK, are_wires_marked};
+
+// The numbers of a wire buffer: as many as 16 products of four inputs ask for.
+const ROOM: usize = 128;
 
 impl Trial {
     // A match is the plainest table of cases and counts.
@@ -34,18 +38,41 @@ impl Trial {
     // A network through the verifier, which does not refuse it.
     pub(crate) fn verifies(&mut self, net: Network) -> Result<(), AllocError> {
         let bytes = net.bytes(self.alloc, self.instance.table.n)?;
-        let verdict = self.instance.problem().verdict(&bytes);
-        match verdict {
-            Ok(v) => self.compare(net, v),
+        let mut wires = [WIRE_MARK; ROOM];
+        let answer = self.instance.problem().verified(&bytes, &mut wires);
+        match answer {
+            Ok(shown) => {
+                self.compare(net, shown.verdict);
+                self.expect_shown(net, shown);
+            }
             Err(_) => add(&mut self.counts.disagreements.verdict),
         }
         Ok(())
     }
 
-    // The verifier refuses what the minimiser refuses by check 6 or 7.
+    // The verifier passes what the minimiser wrote, and writes no wire.
+    pub(crate) fn passes(&mut self, bytes: &[u8]) {
+        let mut wires = [WIRE_MARK; ROOM];
+        let answer = self.instance.problem().verified(bytes, &mut wires);
+        match answer {
+            Ok(shown) => {
+                let passed = shown.verdict == Verdict::Passed;
+                expect(&mut self.counts.disagreements.not_passed, passed);
+                expect(&mut self.counts.disagreements.no_run, shown.count == 0);
+            }
+            Err(_) => add(&mut self.counts.disagreements.not_passed),
+        }
+        let kept = are_wires_marked(&wires);
+        expect(&mut self.counts.disagreements.past_the_run, kept);
+    }
+
+    // The verifier refuses what the minimiser refuses by check 6 or 7, and writes no wire.
     pub(crate) fn declines(&mut self, own: Option<Refusal>) {
         add(&mut self.counts.refused);
-        let same = self.instance.problem().verdict(&[]).err() == own;
+        let mut wires = [WIRE_MARK; ROOM];
+        let same = self.instance.problem().verified(&[], &mut wires).err() == own;
         expect(&mut self.counts.disagreements.acceptance, same);
+        let kept = are_wires_marked(&wires);
+        expect(&mut self.counts.disagreements.past_the_run, kept);
     }
 }

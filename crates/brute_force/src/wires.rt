@@ -18,15 +18,20 @@ const WIDEST: u32 = 24;
 
 // The wires of a network that move in a transition from the point `from`, and the values that it has to show before and after.
 #[derive(Clone, Copy)]
-struct Moves {
+pub struct Moves {
     net: Network,
     from: u16,
-    moving: u64,
-    first: bool,
-    last: bool,
+    pub moving: u64,
+    pub first: bool,
+    pub last: bool,
 }
 
 impl Moves {
+    // The output where these wires have moved.
+    pub(crate) fn output(&self, moved: u64) -> bool {
+        self.net.output(self.from, moved)
+    }
+
     // Whether some further wire gives another value than the last.
     fn leaves(&self, moved: u64) -> bool {
         let mut rest = self.moving ^ moved;
@@ -35,7 +40,7 @@ impl Moves {
                 return false;
             }
             let wire = rest & rest.wrapping_neg();
-            if self.net.output(self.from, moved | wire) != self.last {
+            if self.output(moved | wire) != self.last {
                 return true;
             }
             rest ^= wire;
@@ -46,7 +51,7 @@ impl Moves {
     // Whether no run through this set of moved wires goes wrong here: a static transition shows one value, and a dynamic one that shows
     // its last value keeps it.
     fn right_at(&self, moved: u64) -> bool {
-        let now = self.net.output(self.from, moved);
+        let now = self.output(moved);
         if self.first == self.last {
             now == self.last
         } else {
@@ -68,10 +73,7 @@ impl Moves {
 
     // Whether every run is allowed.
     fn allowed(&self) -> Found {
-        let shown = (
-            self.net.output(self.from, 0),
-            self.net.output(self.from, self.moving),
-        );
+        let shown = (self.output(0), self.output(self.moving));
         if shown != (self.first, self.last) {
             return Found::Hazard;
         }
@@ -88,7 +90,7 @@ impl Moves {
 }
 
 impl Instance {
-    fn moves(&self, net: Network, t: Transition) -> Moves {
+    pub(crate) fn moves(&self, net: Network, t: Transition) -> Moves {
         Moves {
             net,
             from: t.from,

@@ -1,21 +1,40 @@
-// What is printed of the minimiser's answer.
+// What is printed of the minimiser's answer, and of the rest of a buffer.
 use std::fmt;
 use testing::calls::Written;
-use testing::marks::is_marked;
+use testing::marks::{are_wires_marked, is_marked};
 
-// Whether a part of the buffer still has what was in it before the call.
+// Whether a part of a buffer still has what was in it before the call.
 #[derive(Clone, Copy)]
 pub struct Kept<'a> {
-    pub name: &'a str,
-    pub bytes: &'a [u8],
+    name: &'a str,
+    is_empty: bool,
+    is_marked: bool,
+}
+
+impl<'a> Kept<'a> {
+    pub(crate) fn of_bytes(name: &'a str, bytes: &[u8]) -> Kept<'a> {
+        Kept {
+            name,
+            is_empty: bytes.is_empty(),
+            is_marked: is_marked(bytes),
+        }
+    }
+
+    pub(crate) fn of_wires(name: &'a str, numbers: &[u16]) -> Kept<'a> {
+        Kept {
+            name,
+            is_empty: numbers.is_empty(),
+            is_marked: are_wires_marked(numbers),
+        }
+    }
 }
 
 impl<'a> fmt::Display for Kept<'a> {
     fn fmt<W: fmt::Write>(&self, f: &mut fmt::Formatter<W>) -> fmt::Result {
         let name = self.name;
-        if self.bytes.is_empty() {
+        if self.is_empty {
             write!(f, "no {name}")
-        } else if is_marked(self.bytes) {
+        } else if self.is_marked {
             write!(f, "{name} unchanged")
         } else {
             write!(f, "{name} CHANGED")

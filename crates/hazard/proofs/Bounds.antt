@@ -20,14 +20,14 @@ use Rattle.hazard.specs.Sets.{Required, Privileged, labels, maximal_label, kind_
 use Rattle.hazard.specs.Growth.{Growth, Legal, Blocked, steps, grow}
 use Rattle.hazard.specs.Cover.{Network, product_at}
 use Rattle.hazard.specs.Refusal.{Refusal, refusal, product_refusal, refuse_if, inputs_check, length_check, bytes_check, list_check, ends_check, bursts_check, defined_check, rules_check, many_check, input_checks, Accepted}
-use Rattle.hazard.specs.Verdict.{products, products_check, digits_check, network_checks, verifier_checks, Verdict, refused, fault, verdict, Fields, fields_of}
+use Rattle.hazard.specs.Verdict.{products, products_check, digits_check, wires_check, own_checks, verifier_checks, Verdict, refused, fault, verdict, Fields, fields_of}
 use Rattle.hazard.specs.Minimal.{blocked_by, block_check, room_check, blocking, minimiser_checks, Minimal}
 use Rattle.hazard.proofs.Search.{none-some, first_some, place-some, those_e, first_of-none, entries, first_of-append, first_of-some}
 use Rattle.hazard.proofs.Rules.{inputs-few, length_whole, list_few, few-inputs, list_length, points}
 use Rattle.hazard.proofs.Few.{required-few}
 use Rattle.hazard.proofs.Sets.{transition_e, point_e, required_cases, required-digits, privileged_e, privileged_wide}
 use Rattle.hazard.proofs.Growth.{Ends, blocked, grow-steps, grow_ends}
-use Rattle.hazard.proofs.Verdict.{products-length, products_fit, Named, none_named, zero_named, illegal_named, cube_named, fault_named, checked_accepted}
+use Rattle.hazard.proofs.Verdict.{products-few, Named, none_named, zero_named, illegal_named, cube_named, fault_named, checked_accepted}
 
 -- The fields of a refusal; its product is below most.
 pub record Bounded (most : ℕ) (q : Refusal) : Type 0 where
@@ -177,6 +177,9 @@ module _ {most : ℕ} (p : 1 ≤ most) (n : ℕ) where
   products_bounds : (bytes : List ℕ) → Finds most (products_check n bytes)
   products_bounds bytes = test_bounds p (not (eqb (length bytes % n) 0) || ltb most_products (length bytes / n)) 11 (omega arith) (omega arith)
 
+  wires_bounds : (bytes : List ℕ) (room : ℕ) → Finds most (wires_check n bytes room)
+  wires_bounds bytes room = test_bounds p (ltb room (2 * n * (length bytes / n))) 15 (omega arith) (omega arith)
+
 digits_bounds : (n : ℕ) (net : Network) → length net ≤ most_products → Finds most_products (digits_check n net)
 digits_bounds n net few = search_bounds (λ j. product_refusal 12 j) (first (λ j. not (is_product n (product_at net j))) 0 (length net)) (λ j s.
     let b : j < most_products = omega (arith, (first_some (λ j. not (is_product n (product_at net j))) 0 (length net) s).1) in
@@ -206,20 +209,16 @@ module _ (n : ℕ) (f ts : List ℕ) where
       next (room_bounds (omega arith) n f ts room) (λ c9. next (blocked_bounds n f ts a) (λ c10. tried)))) e
 
   module _ (bytes : List ℕ) where
-    -- What check 11 lets through has no more products than the limit.
-    pub products-few : products_check n bytes ≡ None → length (products n bytes) ≤ most_products
-    products-few e = omega (arith, products-length n bytes, (products_fit n bytes e).1)
-
     -- A refusal of the verifier.
-    pub verifier_bounds : {q : Refusal} → first_of (verifier_checks n f ts bytes) ≡ Some q → Bounded most_products q
-    verifier_bounds e =
+    pub verifier_bounds : (room : ℕ) {q : Refusal} → first_of (verifier_checks n f ts bytes room) ≡ Some q → Bounded most_products q
+    verifier_bounds room e =
         each_first (Bounded most_products)
         (each_append (Bounded most_products) (input_bounds (omega arith)) (λ a.
-        next (products_bounds (omega arith) n bytes) (λ c11. next (digits_bounds n (products n bytes) (products-few c11)) (λ c12. tried)))) e
+        next (products_bounds (omega arith) n bytes) (λ c11. next (digits_bounds n (products n bytes) (products-few n bytes c11)) (λ c12. next (wires_bounds (omega arith) n bytes room) (λ c15. tried))))) e
 
     -- Every verdict, of refused input too.
-    pub verdict_bounds : BoundedFields (fields_of (verdict n f ts bytes))
-    verdict_bounds = go (first_of (verifier_checks n f ts bytes)) refl
+    pub verdict_bounds : (room : ℕ) → BoundedFields (fields_of (verdict n f ts bytes room))
+    verdict_bounds room = go (first_of (verifier_checks n f ts bytes room)) refl
       where
         small : {number product transition point : ℕ} → number < 5 → product < most_products → transition ≤ 64 → point < 1024
             → BoundedFields (record { number = number; refusal = 0; product = product; transition = transition; point = point })
@@ -233,8 +232,8 @@ module _ (n : ℕ) (f ts : List ℕ) where
             let (b, c) = required_bounds n f ts a r m in
             small (omega arith) (omega arith) (omega (arith, (list_length n f ts a).1)) (omega (arith, points_few (few-inputs n f ts a).1))
 
-        go : (o : Option Refusal) → first_of (verifier_checks n f ts bytes) ≡ o → BoundedFields (fields_of (elim o [ Some q ↦ refused q | None ↦ fault n f ts (products n bytes) ]))
-        go (Some q) e = let b = verifier_bounds e in record { number = omega arith; refusal = b.number; product = b.product; transition = b.transition; point = b.point }
+        go : (o : Option Refusal) → first_of (verifier_checks n f ts bytes room) ≡ o → BoundedFields (fields_of (elim o [ Some q ↦ refused q | None ↦ fault n f ts (products n bytes) ]))
+        go (Some q) e = let b = verifier_bounds room e in record { number = omega arith; refusal = b.number; product = b.product; transition = b.transition; point = b.point }
         go None e =
-            let rest = ((first_of-append (input_checks n f ts) (network_checks n bytes)).0 e).1 in
-            judged (checked_accepted n f ts bytes e) (products-few (first_of-none (network_checks n bytes) rest (search entries))) (fault_named n f ts (products n bytes))
+            let rest = ((first_of-append (input_checks n f ts) (own_checks n bytes room)).0 e).1 in
+            judged (checked_accepted n f ts bytes room e) (products-few n bytes (first_of-none (own_checks n bytes room) rest (search entries))) (fault_named n f ts (products n bytes))

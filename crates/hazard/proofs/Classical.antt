@@ -22,7 +22,7 @@ use Rattle.hazard.specs.Cover.{Network, WellFormed, gives, covered, without, Own
 use Rattle.hazard.specs.Sequence.{ascending}
 use Rattle.hazard.specs.HazardFree.{HazardFree}
 use Rattle.hazard.specs.Refusal.{Refusal, refusal, refuse_if, inputs_check, bytes_check, list_checks, points_checks, input_checks, Accepted}
-use Rattle.hazard.specs.Verdict.{network_checks, verifier_checks, products, Verdict, refused, passed, holds_zero, uncovered, fault_a, fault_b, first_fault, fault, Verified}
+use Rattle.hazard.specs.Verdict.{own_checks, verifier_checks, products, Verdict, refused, passed, holds_zero, uncovered, fault_a, fault_b, first_fault, fault, Verified}
 use Rattle.hazard.specs.Minimal.{room_check, blocking, minimiser_checks, Minimal, Minimised, written, bytes_of, Promise}
 use Rattle.hazard.specs.Classical.{Implicant, PrimeImplicant, Realises, IrredundantCover, on, function_checks, cover_checks, missed, classical_fault, ClassicalPromise, ClassicalVerified}
 use Rattle.hazard.proofs.Test.{tests, is, isnt, so, so_not, eqb_of, or_e, bool_ext}
@@ -182,8 +182,8 @@ module _ (n : ℕ) (f : List ℕ) where
       size : length (required n f []) ≡ length (those (on f) 0 (2 ^ n))
       size = ap (λ (l : List Required). length l) required_points ∙ length-map (those (on f) 0 (2 ^ n)) (point_at n [])
 
-  verifier_checks_lem : (bytes : List ℕ) → first_of (verifier_checks n f [] bytes) ≡ first_of (function_checks n f ++ network_checks n bytes)
-  verifier_checks_lem bytes = first_of_as (input_checks n f []) (function_checks n f) (network_checks n bytes) function_checks_lem
+  verifier_checks_lem : (bytes : List ℕ) (room : ℕ) → first_of (verifier_checks n f [] bytes room) ≡ first_of (function_checks n f ++ own_checks n bytes room)
+  verifier_checks_lem bytes room = first_of_as (input_checks n f []) (function_checks n f) (own_checks n bytes room) function_checks_lem
 
   -- Nothing is met illegally, and the first required cube in no product is the lowest 1 missed.
   pub fault_classical : (net : Network) → WellFormed n net → fault n f [] net ≡ classical_fault n f net
@@ -234,12 +234,12 @@ module _ (n : ℕ) (f : List ℕ) where
       go (q ∷ net, k, c, s, w) = let (x, l, v, h) = c.irredundant 0 (omega arith) in absurd (no_one x v)
 
   -- and the verifier's.
-  pub verified_classical : {bytes : List ℕ} {v : Verdict} → Verified n f [] bytes v → ClassicalVerified n f bytes v
-  verified_classical {bytes} p =
+  pub verified_classical : {bytes : List ℕ} {room : ℕ} {v : Verdict} → Verified n f [] bytes room v → ClassicalVerified n f bytes room v
+  verified_classical {bytes} {room} p =
       record {
-        is = p.is ∙ same (first_of (verifier_checks n f [] bytes)) refl ∙ ap judgement (verifier_checks_lem bytes);
+        is = p.is ∙ same (first_of (verifier_checks n f [] bytes room)) refl ∙ ap judgement (verifier_checks_lem bytes room);
         realises = λ e.
-            let c = p.hazard_free (verifier_checks_lem bytes ∙ e) in
+            let c = p.hazard_free (verifier_checks_lem bytes room ∙ e) in
             let r = hazard_free-realises (products n bytes) in
             (λ w. r.0 (c.0 w), λ h. c.1 (r.1 h));
       }
@@ -247,6 +247,6 @@ module _ (n : ℕ) (f : List ℕ) where
       judgement : Option Refusal → Verdict
       judgement o = elim o [ Some q ↦ refused q | None ↦ classical_fault n f (products n bytes) ]
 
-      same : (o : Option Refusal) → first_of (verifier_checks n f [] bytes) ≡ o → ◌≡◌ {A = Verdict} (elim o [ Some q ↦ refused q | None ↦ fault n f [] (products n bytes) ]) (judgement o)
+      same : (o : Option Refusal) → first_of (verifier_checks n f [] bytes room) ≡ o → ◌≡◌ {A = Verdict} (elim o [ Some q ↦ refused q | None ↦ fault n f [] (products n bytes) ]) (judgement o)
       same (Some q) e = refl
-      same None e = fault_classical (products n bytes) (checked_well_formed n f [] bytes e)
+      same None e = fault_classical (products n bytes) (checked_well_formed n f [] bytes room e)

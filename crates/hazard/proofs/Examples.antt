@@ -46,28 +46,28 @@ transitions7 = 2 ∷ 7 ∷ 6 ∷ 0 ∷ []
 
 -- K6: a network that is hazard-free.
 pub hazard_free-network : HazardFree 3 table4 transitions4 (products 3 (1 ∷ 2 ∷ 0 ∷ 2 ∷ 1 ∷ 1 ∷ 1 ∷ 1 ∷ 2 ∷ []))
-hazard_free-network = (checked_passed 3 table4 transitions4 (1 ∷ 2 ∷ 0 ∷ 2 ∷ 1 ∷ 1 ∷ 1 ∷ 1 ∷ 2 ∷ []) refl).0 refl
+hazard_free-network = (checked_passed 3 table4 transitions4 (1 ∷ 2 ∷ 0 ∷ 2 ∷ 1 ∷ 1 ∷ 1 ∷ 1 ∷ 2 ∷ []) 18 refl).0 refl
 
 -- K5: one that is not.
 pub hazardous_network : ¬ HazardFree 3 table4 transitions4 (products 3 net5)
-hazardous_network h = let e : uncovered 0 7 ≡ passed = (checked_passed 3 table4 transitions4 net5 refl).1 h in let z : ◌≡◌ {A = ℕ} 0 1 = cc in omega arith
+hazardous_network h = let e : uncovered 0 7 ≡ passed = (checked_passed 3 table4 transitions4 net5 12 refl).1 h in let z : ◌≡◌ {A = ℕ} 0 1 = cc in omega arith
 
 -- K4 with 112 alone: points 1 and 6, which no transition visits, are left, and the first is named with the number of transitions.
-pub point-uncovered : verdict 3 table4 transitions4 (1 ∷ 1 ∷ 2 ∷ []) ≡ uncovered 1 1
+pub point-uncovered : verdict 3 table4 transitions4 (1 ∷ 1 ∷ 2 ∷ []) 6 ≡ uncovered 1 1
 point-uncovered = refl
 
 -- The same where point 0, the default of a list's end, is such a 1; where it is one and covered; and where it is a 0.
-pub point_0_uncovered : verdict 2 (1 ∷ 0 ∷ 0 ∷ 1 ∷ []) (1 ∷ 1 ∷ []) [] ≡ uncovered 1 0
+pub point_0_uncovered : verdict 2 (1 ∷ 0 ∷ 0 ∷ 1 ∷ []) (1 ∷ 1 ∷ []) [] 0 ≡ uncovered 1 0
 point_0_uncovered = refl
 
 -- No run is due for it: its number is past the last transition, though what is read there would go from 1 to 1.
 pub point_0_at_rest : stays_high (1 ∷ 0 ∷ 0 ∷ 1 ∷ []) (1 ∷ 1 ∷ []) 1 ≡ false
 point_0_at_rest = refl
 
-pub point_3_uncovered : verdict 2 (1 ∷ 0 ∷ 0 ∷ 1 ∷ []) (1 ∷ 1 ∷ []) (0 ∷ 0 ∷ []) ≡ uncovered 1 3
+pub point_3_uncovered : verdict 2 (1 ∷ 0 ∷ 0 ∷ 1 ∷ []) (1 ∷ 1 ∷ []) (0 ∷ 0 ∷ []) 4 ≡ uncovered 1 3
 point_3_uncovered = refl
 
-pub point_3_alone : verdict 2 (0 ∷ 0 ∷ 0 ∷ 1 ∷ []) (1 ∷ 1 ∷ []) [] ≡ uncovered 1 3
+pub point_3_alone : verdict 2 (0 ∷ 0 ∷ 0 ∷ 1 ∷ []) (1 ∷ 1 ∷ []) [] 0 ≡ uncovered 1 3
 point_3_alone = refl
 
 -- K7: a table and transitions, free of function hazards, with no hazard-free network.
@@ -134,7 +134,7 @@ six_inputs = (refl, refl)
 
 -- Without transitions K5's network passes, which K4's transition rules out: it realises the function.
 pub no_transition : Realises 3 table4 (products 3 net5)
-no_transition = ((verified_classical 3 table4 (verified 3 table4 [] net5 refl)).realises refl).0 refl
+no_transition = ((verified_classical 3 table4 (verified 3 table4 [] net5 12 refl)).realises refl).0 refl
 
 -- Exclusive or: 01 and 10 are an irredundant cover. With one of them a 1 is missed; a product that is no implicant comes first.
 abbrev table_x : List ℕ
@@ -143,10 +143,10 @@ table_x = 0 ∷ 1 ∷ 1 ∷ 0 ∷ []
 pub exclusive_or : IrredundantCover 2 table_x ((0 ∷ 1 ∷ []) ∷ (1 ∷ 0 ∷ []) ∷ [])
 exclusive_or = ((minimal_irredundant 2 table_x _ refl).0 (essential_minimal 2 table_x [] refl _ tt)).0
 
-pub one-missed : verdict 2 table_x [] (1 ∷ 0 ∷ []) ≡ uncovered 0 2
+pub one-missed : verdict 2 table_x [] (1 ∷ 0 ∷ []) 4 ≡ uncovered 0 2
 one-missed = refl
 
-pub no_implicant : verdict 2 table_x [] (1 ∷ 0 ∷ 2 ∷ 1 ∷ []) ≡ holds_zero 1 3
+pub no_implicant : verdict 2 table_x [] (1 ∷ 0 ∷ 2 ∷ 1 ∷ []) 8 ≡ holds_zero 1 3
 no_implicant = refl
 
 -- An implicant of which a literal can be dropped is not prime: a don't care may be contained.

@@ -31,6 +31,7 @@ pub mod Wire
 pub mod Trace
 pub mod View
 pub mod Moment
+pub mod Pulse
 pub mod Label
 pub mod One
 pub mod Transition
@@ -42,14 +43,13 @@ pub mod Minimal
 pub mod Promise
 pub mod Never
 pub mod Classical
+-- What shows a fault.
+pub mod Rest
+pub mod Shown
 pub mod Bounds
 -- The set pieces.
 pub mod Essential
 pub mod Pieces
+pub mod Replayed
 pub mod Accepted
 pub mod Examples
--- The run that shows a fault.
-pub mod Pulse
-pub mod Rest
-pub mod Shown
-pub mod Replayed

@@ -1,8 +1,8 @@
--- Moments of a run, by a test on the wires that have moved; and runs that pass through given moments.
+-- Moments of a run, by a test on the wires that have moved.
 use mathlib.Core.Path.{◌≡◌, refl, sym, ◌∙◌}
 use mathlib.Core.Logic.{◌≢◌, ◌⊎◌, inl, inr}
-use mathlib.Core.Bool.{Bool, true, not, cond}
-use mathlib.Core.List.{List, [], ◌++◌}
+use mathlib.Core.Bool.{Bool, true, cond}
+use mathlib.Core.List.{List, []}
 use Prim.Native.Nat.{ℕ, ◌<◌}
 use native.Mathlib.Omega.{arith}
 use native.Mathlib.Decide.{ℕ_discrete}
@@ -10,12 +10,12 @@ use lib.Dec.{T}
 use lib.ListN.{length}
 use Rattle.hazard.specs.Cube.{bit}
 use Rattle.hazard.specs.Cover.{Network, product_at, gives}
-use Rattle.hazard.specs.Run.{Wire, times, wires, Run, sees, outputs, Constant, Turns}
+use Rattle.hazard.specs.Run.{Wire, wire, times, wires, Run, sees, outputs}
 use Rattle.hazard.proofs.Test.{known, cond_yes, cond_no, bool_ext}
 use Rattle.hazard.proofs.Point.{dig, has_e, has_i}
 use Rattle.hazard.proofs.Network.{gives_e, gives_i}
-use Rattle.hazard.proofs.Wire.{wire, times-seen, seen-times, times-append, after, times_after, select, times_selected, times-left, times_parted, times_literal}
-use Rattle.hazard.proofs.Trace.{not_self, out, constant_at, turns_at}
+use Rattle.hazard.proofs.Wire.{times-seen, seen-times, after, times_after, times_literal}
+use Rattle.hazard.proofs.Trace.{out}
 use Rattle.hazard.proofs.View.{out_e, out_i, sees-moved, sees_unmoved, sees_either}
 
 module _ (a b : ℕ) (net : Network) where
@@ -63,54 +63,3 @@ module _ (a b : ℕ) (net : Network) where
     where
       whole : Moved (λ w. true) (after r [])
       whole = record { gone = λ w t. omega (arith, times_after r [] w, h w); left = λ w t. absurd (t tt) }
-
-  -- A run through one moment: first the wires that pass the test.
-  pub constant_moved : (q : Wire → Bool) (v : Bool) → Runs (Constant v) → (m : List Wire) × Moved q m × (out a b net m ≡ v)
-  constant_moved q v runs = (
-    after x [],
-    record { gone = λ w t. omega (arith, times_after x [] w, times_selected q all w t); left = λ w t. omega (arith, times_after x [] w, times-left q all w t) },
-    constant_at a b net v x y (runs (x ++ y) (λ w. omega (arith, times-append x y w, times_parted q all w))),
-  )
-    where
-      x : List Wire
-      x = select q all
-
-      y : List Wire
-      y = select (λ w. not (q w)) all
-
-  -- A run through two moments: first the wires that pass q, then the others that pass s, then the rest. It does not come back to v.
-  pub turns-moved : (q s : Wire → Bool) → ((w : Wire) → T (q w) → T (s w)) → (v : Bool) → Runs (Turns v)
-      → ((m : List Wire) → Moved q m → out a b net m ≡ not v) → ((m : List Wire) → Moved s m → out a b net m ≡ v) → ⊥
-  turns-moved q s grows v runs one two = not_self v (sym (two m₂ second) ∙ turns_at a b net v x y z (runs (x ++ (y ++ z)) whole) (one m₁ first))
-    where
-      x : List Wire
-      x = select q (select s all)
-
-      y : List Wire
-      y = select (λ w. not (q w)) (select s all)
-
-      z : List Wire
-      z = select (λ w. not (s w)) all
-
-      m₁ : List Wire
-      m₁ = after x []
-
-      m₂ : List Wire
-      m₂ = after y m₁
-
-      whole : Run a b net (x ++ (y ++ z))
-      whole w = omega (arith, times-append x (y ++ z) w, times-append y z w, times_parted q (select s all) w, times_parted s all w)
-
-      first : Moved q m₁
-      first =
-          record {
-            gone = λ w t. omega (arith, times_after x [] w, times_selected q (select s all) w t, times_selected s all w (grows w t));
-            left = λ w t. omega (arith, times_after x [] w, times-left q (select s all) w t);
-          }
-
-      second : Moved s m₂
-      second =
-          record {
-            gone = λ w t. omega (arith, times_after x [] w, times_after y m₁ w, times_parted q (select s all) w, times_selected s all w t);
-            left = λ w t. omega (arith, times_after x [] w, times_after y m₁ w, times_parted q (select s all) w, times-left s all w t);
-          }

@@ -16,7 +16,7 @@ use Rattle.hazard.specs.Sets.{Required, required, privileged}
 use Rattle.hazard.specs.Growth.{Growth, Legal, Blocked, grow}
 use Rattle.hazard.specs.Cover.{Network, product_at}
 use Rattle.hazard.specs.Refusal.{Refusal, refusal, product_refusal, refuse_if, inputs_check, length_check, bytes_check, list_check, ends_check, bursts_check, defined_check, rules_check, many_check, input_checks}
-use Rattle.hazard.specs.Verdict.{products, products_check, digits_check, verifier_checks}
+use Rattle.hazard.specs.Verdict.{products, products_check, digits_check, wires_check, verifier_checks}
 use Rattle.hazard.specs.Minimal.{blocked_by, block_check, room_check, blocking, minimiser_checks}
 use Rattle.hazard.proofs.Test.{or_l, or_r, eqb_of}
 use Rattle.hazard.proofs.Search.{none-some, first_of-left, first_of-right, first_of-some, first_of-one, first_of_as}
@@ -82,6 +82,9 @@ module _ (n : ℕ) where
   pub digits_number : (net : Network) → Numbered 12 (digits_check n net)
   digits_number net = search_number (λ j. product_refusal 12 j) (λ j. refl) (first (λ j. not (is_product n (product_at net j))) 0 (length net))
 
+  pub wires-number : (bytes : List ℕ) (room : ℕ) → Numbered 15 (wires_check n bytes room)
+  wires-number bytes room = test_number (ltb room (2 * n * (length bytes / n))) 15
+
 -- The numbers of a list of checks, one for each, in their order.
 pub data Numbers : List ℕ → List (Option Refusal) → Type 0 where
   no_more : Numbers [] []
@@ -133,8 +136,8 @@ module _ (n : ℕ) (f ts : List ℕ) where
   abbrev pub minimiser_numbers : (room : ℕ) → (ks : List ℕ) × Numbers ks (minimiser_checks n f ts room)
   minimiser_numbers room = (_, numbers-append (room-numbers room).1 (next (block_number n f ts) no_more))
 
-  abbrev pub verifier_numbers : (bytes : List ℕ) → (ks : List ℕ) × Numbers ks (verifier_checks n f ts bytes)
-  verifier_numbers bytes = (_, numbers-append input-numbers.1 (next (products-number n bytes) (next (digits_number n (products n bytes)) no_more)))
+  abbrev pub verifier_numbers : (bytes : List ℕ) (room : ℕ) → (ks : List ℕ) × Numbers ks (verifier_checks n f ts bytes room)
+  verifier_numbers bytes room = (_, numbers-append input-numbers.1 (next (products-number n bytes) (next (digits_number n (products n bytes)) (next (wires-number n bytes room) no_more))))
 
   -- Refusal 10 comes from blocking alone: the checks before it find nothing.
   pub ten_blocks : (room : ℕ) {q : Refusal} → first_of (minimiser_checks n f ts room) ≡ Some q → q.number ≡ 10

@@ -5,11 +5,14 @@ use Rattle.std.specs.Prelude.{None}
 use Prim.Native.Nat.{ℕ}
 use lib.Dec.{T}
 use Rattle.hazard.specs.Search.{first_of}
+use Rattle.hazard.specs.Transition.{fall, high}
 use Rattle.hazard.specs.Cover.{Network}
 use Rattle.hazard.specs.Refusal.{Accepted}
+use Rattle.hazard.specs.Verdict.{products}
 use Rattle.hazard.specs.Minimal.{minimiser_checks}
 use Rattle.hazard.specs.Piece.{buffer_length, Exactly, Holds}
-use Rattle.hazard.specs.Pieces.{pieces}
+use Rattle.hazard.specs.Pieces.{net5, net9, pieces}
+use Rattle.hazard.proofs.Pulse.{pulse_run}
 use Rattle.hazard.proofs.Essential.{essential, essential_minimal, essential_only}
 
 -- Every entry of a list passes.
@@ -33,7 +36,7 @@ set-pieces = (
         (
           refl,
           (
-            (λ w. refl, refl),
+            (refl, pulse_run high 0 3 7 (products 3 net5), refl),
             (
               refl,
               (
@@ -43,12 +46,15 @@ set-pieces = (
                   (
                     refl,
                     (
-                      refl,
+                      (refl, pulse_run fall 0 6 0 (products 3 net9), refl),
                       (
                         refl,
                         (
                           refl,
-                          tt,
+                          (
+                            refl,
+                            tt,
+                          ),
                         ),
                       ),
                     ),

@@ -12,11 +12,11 @@ use lib.ListN.{length, length-append}
 use Rattle.hazard.specs.Cube.{Cube, bit, has, span}
 use Rattle.hazard.specs.Transition.{Kind, low, rise, fall, high}
 use Rattle.hazard.specs.Cover.{Network, product_at, gives}
-use Rattle.hazard.specs.Run.{Wire, same_wire, seen, times, wires_of, wires, Run, sees, outputs, Allowed}
+use Rattle.hazard.specs.Run.{Wire, wire, same_wire, seen, times, wires_of, wires, Run, sees, outputs, Allowed}
 use Rattle.hazard.proofs.Test.{tests, is, isnt, so, so_not, known, or_l, eqb_of, eqb_self, cond_yes, cond_no}
 use Rattle.hazard.proofs.Point.{dig, bit-lt, digits-length, dig_short, has_e, has_i, in_e}
 use Rattle.hazard.proofs.Network.{Products, gives_i, Joint}
-use Rattle.hazard.proofs.Wire.{wire, seen-times, times-append, times_selected, times-left, after, times_after, Literal, run_wires, run_length}
+use Rattle.hazard.proofs.Wire.{seen-times, times-append, times_selected, times-left, after, times_after, Literal, run_wires, run_length}
 use Rattle.hazard.proofs.Trace.{out, constant_at, turns_at}
 use Rattle.hazard.proofs.View.{On, out_e, out_i}
 use Rattle.hazard.proofs.Moment.{Moved, moved-sees}

@@ -19,7 +19,7 @@ use Rattle.hazard.specs.Implicant.{illegal}
 use Rattle.hazard.specs.Cover.{Network, product_at, WellFormed, gives, covered}
 use Rattle.hazard.specs.Run.{Wire, outputs, Allowed}
 use Rattle.hazard.specs.Refusal.{Refusal, input_checks, Accepted}
-use Rattle.hazard.specs.Verdict.{products, products_check, network_checks, verifier_checks, Verdict, refused, passed, holds_zero, intersects, uncovered, fault_a, fault, verdict, Verified}
+use Rattle.hazard.specs.Verdict.{products, products_check, own_checks, verifier_checks, Verdict, refused, passed, holds_zero, intersects, uncovered, fault_a, fault, verdict, Verified}
 use Rattle.hazard.specs.Classical.{function_checks, missed}
 use Rattle.hazard.specs.Shown.{is_high, stays_high, Hazard, AtRest, EvidenceB, Evidence, numbers, Shown}
 use Rattle.hazard.specs.Pulse.{pulse, run_for}
@@ -151,23 +151,23 @@ module _ (n : ℕ) (f ts : List ℕ) (net : Network) (accepted : Accepted n f ts
       go true = pulse-few n high 0 (start ts k) (end ts k) net good
       go false = omega arith
 
-module _ (n : ℕ) (f ts bytes : List ℕ) where
+module _ (n : ℕ) (f ts bytes : List ℕ) (room : ℕ) where
   abbrev network : Network
   network = products n bytes
 
   -- The run for the definition's verdict shows it, for refused input too.
-  pub verdict-right : Evidence f ts network (verdict n f ts bytes) (run_for f ts network (verdict n f ts bytes))
-  verdict-right = go (first_of (verifier_checks n f ts bytes)) refl
+  pub verdict-right : Evidence f ts network (verdict n f ts bytes room) (run_for f ts network (verdict n f ts bytes room))
+  verdict-right = go (first_of (verifier_checks n f ts bytes room)) refl
     where
       judged : Option Refusal → Verdict
       judged o = elim o [ Some r ↦ refused r | None ↦ fault n f ts network ]
 
-      go : (o : Option Refusal) → first_of (verifier_checks n f ts bytes) ≡ o → Evidence f ts network (judged o) (run_for f ts network (judged o))
+      go : (o : Option Refusal) → first_of (verifier_checks n f ts bytes room) ≡ o → Evidence f ts network (judged o) (run_for f ts network (judged o))
       go (Some r) e = refl
-      go None e = fault-right n f ts network (checked_accepted n f ts bytes e) (checked_well_formed n f ts bytes e)
+      go None e = fault-right n f ts network (checked_accepted n f ts bytes room e) (checked_well_formed n f ts bytes room e)
 
   -- The whole promise, of the run for the definition's verdict.
-  pub shown : {v : Verdict} → v ≡ verdict n f ts bytes → {before after : List ℕ} {size : ℕ} → size ≡ length (run_for f ts network v)
+  pub shown : {v : Verdict} → v ≡ verdict n f ts bytes room → {before after : List ℕ} {size : ℕ} → size ≡ length (run_for f ts network v)
       → after ≡ numbers (run_for f ts network v) ++ drop (2 * length (run_for f ts network v)) before → Shown f ts network v before after size
   shown {v} e c b =
       record {
@@ -224,30 +224,30 @@ module _ (f ts : List ℕ) (net : Network) where
       go (uncovered k x) e = cube k x (stays_high f ts k) e
 
 -- Every count is at most the limit, of refused input too.
-pub shown_most : {n : ℕ} {f ts bytes : List ℕ} {v : Verdict} {before after : List ℕ} {size : ℕ}
-    → Verified n f ts bytes v → Shown f ts (products n bytes) v before after size → size ≤ most_wires
-shown_most {n} {f} {ts} {bytes} {v} {size = size} p h = go (first_of (verifier_checks n f ts bytes)) refl
+pub shown_most : {n : ℕ} {f ts bytes : List ℕ} {room : ℕ} {v : Verdict} {before after : List ℕ} {size : ℕ}
+    → Verified n f ts bytes room v → Shown f ts (products n bytes) v before after size → size ≤ most_wires
+shown_most {n} {f} {ts} {bytes} {room} {v} {size = size} p h = go (first_of (verifier_checks n f ts bytes room)) refl
   where
-    go : (o : Option Refusal) → first_of (verifier_checks n f ts bytes) ≡ o → size ≤ most_wires
+    go : (o : Option Refusal) → first_of (verifier_checks n f ts bytes room) ≡ o → size ≤ most_wires
     go (Some r) e =
         let w : v ≡ refused r = p.is ∙ ap (λ (q : Option Refusal). elim q as (λ (x : Option Refusal). Verdict) [ Some r ↦ refused r | None ↦ fault n f ts (products n bytes) ]) e in
         let z = unchanged f ts (products n bytes) h (subst⁻¹ (λ (u : Verdict). ¬ T (due f ts u)) w (λ t. t)) in
         omega (arith, z.0)
     go None e =
-        let c : products_check n bytes ≡ None = first_of-none (network_checks n bytes) ((first_of-append (input_checks n f ts) (network_checks n bytes)).0 e).1 (search entries) in
+        let c : products_check n bytes ≡ None = first_of-none (own_checks n bytes room) ((first_of-append (input_checks n f ts) (own_checks n bytes room)).0 e).1 (search entries) in
         omega (
           arith,
           h.counted,
-          evidence-few f ts (products n bytes) n (well_formed→ (checked_well_formed n f ts bytes e)) v h.wires h.evidence,
-          mul-le-mul (few-inputs n f ts (checked_accepted n f ts bytes e)).1 (products-few n bytes c),
+          evidence-few f ts (products n bytes) n (well_formed→ (checked_well_formed n f ts bytes room e)) v h.wires h.evidence,
+          mul-le-mul (few-inputs n f ts (checked_accepted n f ts bytes room e)).1 (products-few n bytes c),
         )
 
 -- With an empty list no run is due, so none is written: every fault is a difference at rest.
-pub shown_classical : {n : ℕ} {f bytes : List ℕ} {v : Verdict} {before after : List ℕ} {size : ℕ}
-    → Verified n f [] bytes v → Shown f [] (products n bytes) v before after size → (size ≡ 0) × (after ≡ before)
-shown_classical {n} {f} {bytes} p h =
+pub shown_classical : {n : ℕ} {f bytes : List ℕ} {room : ℕ} {v : Verdict} {before after : List ℕ} {size : ℕ}
+    → Verified n f [] bytes room v → Shown f [] (products n bytes) v before after size → (size ≡ 0) × (after ≡ before)
+shown_classical {n} {f} {bytes} {room} p h =
     unchanged f [] (products n bytes) h (subst⁻¹ (λ (u : Verdict). ¬ T (due f [] u)) (verified_classical n f p).is
-    (go (first_of (function_checks n f ++ network_checks n bytes)) (fault_a n (off f) (products n bytes)) (missed n f (products n bytes))))
+    (go (first_of (function_checks n f ++ own_checks n bytes room)) (fault_a n (off f) (products n bytes)) (missed n f (products n bytes))))
   where
     found : Option (ℕ × ℕ) → Option ℕ → Verdict
     found a b = elim a [ Some q ↦ holds_zero q.0 q.1 | None ↦ elim b [ Some x ↦ uncovered 0 x | None ↦ passed ] ]

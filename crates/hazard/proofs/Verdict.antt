@@ -6,7 +6,7 @@ use mathlib.Core.List.{List, Memᴰ}
 use Rattle.std.specs.Prelude.{Option, None, Some, option_map}
 use Rattle.std.proofs.lemmas.Option.{same_Some}
 use Rattle.hazard.proofs.Options.{map-eq-none_iff}
-use Prim.Native.Nat.{ℕ, zero, suc, ◌+◌, ◌/◌, ◌%◌, ◌^◌, ◌≤◌, ◌<◌}
+use Prim.Native.Nat.{ℕ, zero, suc, ◌+◌, ◌*◌, ◌/◌, ◌%◌, ◌^◌, ◌≤◌, ◌<◌}
 use native.Mathlib.Omega.{arith}
 use lib.Dec.{T, T_not, eqb, ltb, eqb→eq, lt→ltb}
 use lib.ListN.{length, drop}
@@ -19,7 +19,7 @@ use Rattle.hazard.specs.Implicant.{illegal, lowest_zero}
 use Rattle.hazard.specs.Cover.{Network, product_at, WellFormed, covered, HazardFreeCover}
 use Rattle.hazard.specs.HazardFree.{HazardFree}
 use Rattle.hazard.specs.Refusal.{Refusal, product_refusal, input_checks, Accepted}
-use Rattle.hazard.specs.Verdict.{cut, products, products_check, digits_check, network_checks, verifier_checks, Verdict, refused, passed, holds_zero, intersects, uncovered, fault_a, fault_c, fault_b, first_fault, fault, verdict, Verified, fields_of}
+use Rattle.hazard.specs.Verdict.{cut, products, products_check, digits_check, wires_check, own_checks, verifier_checks, Verdict, refused, passed, holds_zero, intersects, uncovered, fault_a, fault_c, fault_b, first_fault, fault, verdict, Verified, fields_of}
 use Rattle.hazard.proofs.Test.{T_and, no_or, sure}
 use Rattle.hazard.proofs.Rules.{lets}
 use Rattle.hazard.proofs.Search.{none-some, first-none, none_first, find_none, place_none, first_of-none, entries, first_of-append, First, lowest, first-is, Find, hit, find-is, Earlier, Place, placed, place_is}
@@ -212,38 +212,44 @@ digits_formed n bytes e = at_places (λ (p : Cube). T (is_product n p)) (product
     sure (is_product n (product_at (products n bytes) j)) (first-none (λ i. not (is_product n (product_at (products n bytes) i))) 0 (length (products n bytes))
     ((map-eq-none_iff (λ i. product_refusal 12 i) (first (λ i. not (is_product n (product_at (products n bytes) i))) 0 (length (products n bytes)))).0 e) j (omega arith) (omega arith)))
 
-module _ (n : ℕ) (f ts bytes : List ℕ) where
+-- What check 15 says of what it lets through.
+pub wires-room : (n : ℕ) (bytes : List ℕ) (room : ℕ) → wires_check n bytes room ≡ None → 2 * n * (length bytes / n) ≤ room
+wires-room n bytes room e =
+    let h : ¬ (room < 2 * n * (length bytes / n)) = λ l. lets (ltb room (2 * n * (length bytes / n))) 15 e (lt→ltb room (2 * n * (length bytes / n)) l) in
+    omega arith
+
+module _ (n : ℕ) (f ts bytes : List ℕ) (room : ℕ) where
   -- The verifier's checks refuse nothing.
   abbrev pub Checked : Type 0
-  Checked = first_of (verifier_checks n f ts bytes) ≡ None
+  Checked = first_of (verifier_checks n f ts bytes room) ≡ None
 
   -- What the verifier's checks let through is an accepted table, with a network.
   pub checked_accepted : Checked → Accepted n f ts
-  checked_accepted e = ((first_of-append (input_checks n f ts) (network_checks n bytes)).0 e).0
+  checked_accepted e = ((first_of-append (input_checks n f ts) (own_checks n bytes room)).0 e).0
 
   pub checked_well_formed : Checked → WellFormed n (products n bytes)
-  checked_well_formed e = digits_formed n bytes (first_of-none (network_checks n bytes) ((first_of-append (input_checks n f ts) (network_checks n bytes)).0 e).1 (search entries))
+  checked_well_formed e = digits_formed n bytes (first_of-none (own_checks n bytes room) ((first_of-append (input_checks n f ts) (own_checks n bytes room)).0 e).1 (search entries))
 
   -- The verdict is `passed` exactly if the checks refuse nothing and the network is hazard-free.
-  pub verdict-passed : (verdict n f ts bytes ≡ passed) ↔ (Checked × HazardFree n f ts (products n bytes))
+  pub verdict-passed : (verdict n f ts bytes room ≡ passed) ↔ (Checked × HazardFree n f ts (products n bytes))
   verdict-passed =
-      let s = judged (first_of (verifier_checks n f ts bytes)) (fault n f ts (products n bytes)) in
+      let s = judged (first_of (verifier_checks n f ts bytes room)) (fault n f ts (products n bytes)) in
       (λ e. ((s.0 e).0, (right (s.0 e).0).0 (s.0 e).1), λ h. s.1 (h.0, (right h.0).1 h.1))
     where
       right : Checked → (fault n f ts (products n bytes) ≡ passed) ↔ HazardFree n f ts (products n bytes)
       right e = passed_hazard_free n f ts (products n bytes) (checked_accepted e) (checked_well_formed e)
 
   -- Of what the checks let through, exactly the hazard-free networks pass.
-  pub checked_passed : Checked → (verdict n f ts bytes ≡ passed) ↔ HazardFree n f ts (products n bytes)
+  pub checked_passed : Checked → (verdict n f ts bytes room ≡ passed) ↔ HazardFree n f ts (products n bytes)
   checked_passed e = (λ p. (verdict-passed.0 p).1, λ h. verdict-passed.1 (e, h))
 
   -- The whole promise, of the definition's verdict.
-  pub verified : {v : Verdict} → v ≡ verdict n f ts bytes → Verified n f ts bytes v
+  pub verified : {v : Verdict} → v ≡ verdict n f ts bytes room → Verified n f ts bytes room v
   verified {v} e =
       record {
         is = e;
         fields = ap fields_of e;
-        covers = λ h. let s = judged (first_of (verifier_checks n f ts bytes)) (fault n f ts (products n bytes)) in
+        covers = λ h. let s = judged (first_of (verifier_checks n f ts bytes room)) (fault n f ts (products n bytes)) in
             let c = fault-passed n f ts (products n bytes) in (λ p. c.0 (s.0 (sym e ∙ p)).1, λ k. e ∙ s.1 (h, c.1 k));
         hazard_free = λ h. let c = checked_passed h in (λ p. c.0 (sym e ∙ p), λ k. e ∙ c.1 k);
       }

@@ -9,11 +9,10 @@ use lib.Dec.{T}
 use lib.ListN.{length}
 use Rattle.hazard.specs.Cube.{Cube, bit, has, span}
 use Rattle.hazard.specs.Cover.{Network, product_at}
-use Rattle.hazard.specs.Run.{Wire, same_wire, seen, sees, on, output}
+use Rattle.hazard.specs.Run.{Wire, wire, same_wire, seen, sees, on, output}
 use Rattle.hazard.proofs.Test.{tests, or_l, or_r, or_e, known, cond_yes, cond_no}
 use Rattle.hazard.proofs.Cube.{Digits}
 use Rattle.hazard.proofs.Point.{bit-lt, dig_short, Agrees, has_e, has_i, In, in_i, point, point-lt, bit-point}
-use Rattle.hazard.proofs.Wire.{wire}
 
 module _ (a b : ℕ) where
   on-from : (m : List Wire) (j i : ℕ) (p : Cube) → T (on a b m j i p) → Agrees p (λ k. sees a b m j (i + k))

@@ -6,17 +6,14 @@ use mathlib.Core.List.{List, [], ◌∷◌, ◌++◌}
 use Prim.Native.Nat.{ℕ, zero, suc, ◌+◌, ◌≤◌, ◌<◌}
 use native.Mathlib.Nat.{not-suc-le-zero, le_of_suc-le-suc, zero-add, add-zero}
 use native.Mathlib.Omega.{arith}
-use lib.Dec.{T, eqb, T_not, not_T}
+use lib.Dec.{T, eqb}
 use lib.ListN.{length}
 use Rattle.hazard.specs.Cube.{Cube, bit}
 use Rattle.hazard.specs.Cover.{Network, product_at}
-use Rattle.hazard.specs.Run.{Wire, same_wire, seen, times, wires_of, wires, Run}
+use Rattle.hazard.specs.Run.{Wire, wire, same_wire, seen, times, wires_of, wires, Run}
 use Rattle.hazard.specs.Pulse.{passing}
 use Rattle.hazard.proofs.Test.{tests, so, so_not, or_l, or_r, or_e, known, cond_yes, cond_no}
 use Rattle.hazard.proofs.Point.{dig}
-
-abbrev pub wire : ℕ → ℕ → Wire
-wire j i = record { product = j; input = i }
 
 -- Wires are the same if the test says so.
 same_self : (w : Wire) → T (same_wire w w)
@@ -68,33 +65,22 @@ pub times_after : (r m : List Wire) (w : Wire) → times (after r m) w ≡ times
 times_after [] m w = sym (zero-add (times m w))
 times_after (v ∷ vs) m w = omega (arith, times_after vs (v ∷ m) w)
 
--- The wires that pass a test, in their order.
-abbrev pub select : (Wire → Bool) → List Wire → List Wire
-select = passing
-
-pub times_selected : (q : Wire → Bool) (r : List Wire) (w : Wire) → T (q w) → times (select q r) w ≡ times r w
+-- A wire that passes a test stands among those that pass as often as before, any other not at all.
+pub times_selected : (q : Wire → Bool) (r : List Wire) (w : Wire) → T (q w) → times (passing q r) w ≡ times r w
 times_selected q [] w t = refl
 times_selected q (v ∷ vs) w t = go (q v) refl (times_selected q vs w t)
   where
-    go : (b : Bool) → q v ≡ b → times (select q vs) w ≡ times vs w → times (elim b [ true ↦ v ∷ select q vs | false ↦ select q vs ]) w ≡ times (v ∷ vs) w
+    go : (b : Bool) → q v ≡ b → times (passing q vs) w ≡ times vs w → times (elim b [ true ↦ v ∷ passing q vs | false ↦ passing q vs ]) w ≡ times (v ∷ vs) w
     go true e h = omega arith
     go false e h = omega (arith, times-other v vs w (λ u. so_not e (subst⁻¹ (λ (x : Wire). T (q x)) (same-eq v w u) t)))
 
-pub times-left : (q : Wire → Bool) (r : List Wire) (w : Wire) → ¬ T (q w) → times (select q r) w ≡ 0
+pub times-left : (q : Wire → Bool) (r : List Wire) (w : Wire) → ¬ T (q w) → times (passing q r) w ≡ 0
 times-left q [] w t = refl
 times-left q (v ∷ vs) w t = go (q v) refl (times-left q vs w t)
   where
-    go : (b : Bool) → q v ≡ b → times (select q vs) w ≡ 0 → times (elim b [ true ↦ v ∷ select q vs | false ↦ select q vs ]) w ≡ 0
-    go true e h = omega (arith, times-other v (select q vs) w (λ u. t (subst (λ (x : Wire). T (q x)) (same-eq v w u) (so e))))
+    go : (b : Bool) → q v ≡ b → times (passing q vs) w ≡ 0 → times (elim b [ true ↦ v ∷ passing q vs | false ↦ passing q vs ]) w ≡ 0
+    go true e h = omega (arith, times-other v (passing q vs) w (λ u. t (subst (λ (x : Wire). T (q x)) (same-eq v w u) (so e))))
     go false e h = h
-
--- A test parts a list in two.
-pub times_parted : (q : Wire → Bool) (r : List Wire) (w : Wire) → times (select q r) w + times (select (λ x. not (q x)) r) w ≡ times r w
-times_parted q r w =
-    elim (known (q w)) [
-      | inl t ↦ omega (arith, times_selected q r w t, times-left (λ x. not (q x)) r w (λ u. T_not (q w) u t))
-      | inr t ↦ omega (arith, times-left q r w t, times_selected (λ x. not (q x)) r w (not_T (q w) t))
-    ]
 
 -- A list with the first place of a wire taken out.
 abbrev without_wire : Wire → List Wire → List Wire

@@ -7,7 +7,7 @@ use Rattle.hazard.specs.Transition.{value, off}
 use Rattle.hazard.specs.Cover.{Network, gives, without}
 use Rattle.hazard.specs.Sequence.{ascending}
 use Rattle.hazard.specs.Refusal.{Refusal, refuse_if, inputs_check, table_checks}
-use Rattle.hazard.specs.Verdict.{network_checks, products, Verdict, refused, passed, holds_zero, uncovered, fault_a}
+use Rattle.hazard.specs.Verdict.{own_checks, products, Verdict, refused, passed, holds_zero, uncovered, fault_a}
 use Rattle.hazard.specs.Minimal.{bytes_of, Minimised, written, declined}
 
 -- An implicant: a product that contains no 0 of the function.
@@ -52,9 +52,9 @@ module _ (n : ℕ) (f : List ℕ) where
   abbrev pub classical_fault : Network → Verdict
   classical_fault net = elim (fault_a n (off f) net) [ Some p ↦ holds_zero p.0 p.1 | None ↦ elim (missed net) [ Some x ↦ uncovered 0 x | None ↦ passed ] ]
 
-  -- The verdict on a network's bytes.
-  abbrev pub classical_verdict : List ℕ → Verdict
-  classical_verdict bytes = elim (first_of (function_checks ++ network_checks n bytes)) [ Some q ↦ refused q | None ↦ classical_fault (products n bytes) ]
+  -- The verdict on a network's bytes, for a wire buffer of room numbers.
+  abbrev pub classical_verdict : List ℕ → ℕ → Verdict
+  classical_verdict bytes room = elim (first_of (function_checks ++ own_checks n bytes room)) [ Some q ↦ refused q | None ↦ classical_fault (products n bytes) ]
 
 -- What the minimiser promises where the list is empty: an irredundant cover by prime implicants, in sequence. There always is one.
 pub record ClassicalPromise (n : ℕ) (f before after : List ℕ) (r : Minimised) : Type 0 where
@@ -63,6 +63,6 @@ pub record ClassicalPromise (n : ℕ) (f before after : List ℕ) (r : Minimised
       → (net : Network) × (r ≡ written (length net)) × IrredundantCover n f net × T (ascending net) × (after ≡ bytes_of net ++ drop (n * length net) before)
 
 -- What the verifier promises where the list is empty: passed exactly if the network realises the function.
-pub record ClassicalVerified (n : ℕ) (f bytes : List ℕ) (v : Verdict) : Type 0 where
-  pub is : v ≡ classical_verdict n f bytes
-  pub realises : first_of (function_checks n f ++ network_checks n bytes) ≡ None → (v ≡ passed) ↔ Realises n f (products n bytes)
+pub record ClassicalVerified (n : ℕ) (f bytes : List ℕ) (room : ℕ) (v : Verdict) : Type 0 where
+  pub is : v ≡ classical_verdict n f bytes room
+  pub realises : first_of (function_checks n f ++ own_checks n bytes room) ≡ None → (v ≡ passed) ↔ Realises n f (products n bytes)

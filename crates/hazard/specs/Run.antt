@@ -9,6 +9,10 @@ pub record Wire : Type 0 where
   pub product : ℕ
   pub input : ℕ
 
+-- That of input i in product j.
+abbrev pub wire : ℕ → ℕ → Wire
+wire j i = record { product = j; input = i }
+
 -- The two wires are one.
 abbrev pub same_wire : Wire → Wire → Bool
 same_wire v w = eqb v.product w.product && eqb v.input w.input
@@ -28,7 +32,7 @@ module _ (a b : ℕ) where
   abbrev pub wires_of : ℕ → ℕ → Cube → List Wire
   wires_of j i [] = []
   wires_of j i (d ∷ ds) =
-      elim (not (eqb d 2) && not (eqb (bit a i) (bit b i))) [ true ↦ record { product = j; input = i } ∷ wires_of j (suc i) ds | false ↦ wires_of j (suc i) ds ]
+      elim (not (eqb d 2) && not (eqb (bit a i) (bit b i))) [ true ↦ wire j i ∷ wires_of j (suc i) ds | false ↦ wires_of j (suc i) ds ]
 
   -- The wires of the products from place j on.
   abbrev pub wires : ℕ → Network → List Wire
@@ -41,7 +45,7 @@ module _ (a b : ℕ) where
 
   -- What the literal of product j on input i sees once the wires of m have moved.
   abbrev pub sees : List Wire → ℕ → ℕ → ℕ
-  sees m j i = cond (seen m (record { product = j; input = i })) (bit b i) (bit a i)
+  sees m j i = cond (seen m (wire j i)) (bit b i) (bit a i)
 
   -- All literals of product j from input i on are satisfied by what they see.
   abbrev pub on : List Wire → ℕ → ℕ → Cube → Bool

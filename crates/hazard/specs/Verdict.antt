@@ -1,5 +1,5 @@
 -- The verifier's verdict (document 01: the marker's).
-use Rattle.std.specs.Prelude.{◌≡◌, ◌↔◌, Bool, not, ◌||◌, List, [], ◌∷◌, ◌++◌, ℕ, zero, suc, ◌/◌, ◌%◌, eqb, ltb, length, take, drop, Option, None, Some, option_map}
+use Rattle.std.specs.Prelude.{◌≡◌, ◌↔◌, Bool, not, ◌||◌, List, [], ◌∷◌, ◌++◌, ℕ, zero, suc, ◌*◌, ◌/◌, ◌%◌, eqb, ltb, length, take, drop, Option, None, Some, option_map}
 use Rattle.hazard.specs.Limits.{most_products}
 use Rattle.hazard.specs.Search.{first, first_place, find, first_of}
 use Rattle.hazard.specs.Cube.{is_product}
@@ -31,9 +31,17 @@ digits_check n net = option_map (λ j. product_refusal 12 j) (first (λ j. not (
 abbrev pub network_checks : ℕ → List ℕ → List (Option Refusal)
 network_checks n bytes = products_check n bytes ∷ digits_check n (products n bytes) ∷ []
 
+-- 15: the wire buffer, of room numbers, is shorter than two for each input of each product.
+abbrev pub wires_check : ℕ → List ℕ → ℕ → Option Refusal
+wires_check n bytes room = refuse_if (ltb room (2 * n * (length bytes / n))) 15
+
+-- The verifier's own checks, after the input rules: of the network, then of the wire buffer.
+abbrev pub own_checks : ℕ → List ℕ → ℕ → List (Option Refusal)
+own_checks n bytes room = network_checks n bytes ++ (wires_check n bytes room ∷ [])
+
 -- The verifier's checks, in their order.
-abbrev pub verifier_checks : ℕ → List ℕ → List ℕ → List ℕ → List (Option Refusal)
-verifier_checks n f ts bytes = input_checks n f ts ++ network_checks n bytes
+abbrev pub verifier_checks : ℕ → List ℕ → List ℕ → List ℕ → ℕ → List (Option Refusal)
+verifier_checks n f ts bytes room = input_checks n f ts ++ own_checks n bytes room
 
 -- The verdict, with what it names.
 pub data Verdict : Type 0 where
@@ -70,9 +78,9 @@ first_fault a c b =
 abbrev pub fault : ℕ → List ℕ → List ℕ → Network → Verdict
 fault n f ts net = first_fault (fault_a n (off f) net) (fault_c (privileged n f ts) net) (fault_b (required n f ts) net)
 
--- The verdict on a network's bytes.
-abbrev pub verdict : ℕ → List ℕ → List ℕ → List ℕ → Verdict
-verdict n f ts bytes = elim (first_of (verifier_checks n f ts bytes)) [ Some r ↦ refused r | None ↦ fault n f ts (products n bytes) ]
+-- The verdict on a network's bytes, for a wire buffer of room numbers.
+abbrev pub verdict : ℕ → List ℕ → List ℕ → List ℕ → ℕ → Verdict
+verdict n f ts bytes room = elim (first_of (verifier_checks n f ts bytes room)) [ Some r ↦ refused r | None ↦ fault n f ts (products n bytes) ]
 
 -- The verdict's number and the fields that go back with it. What a verdict does not name is 0.
 pub record Fields : Type 0 where
@@ -91,12 +99,12 @@ fields_of (intersects j k) = record { number = 3; refusal = 0; product = j; tran
 fields_of (uncovered k x) = record { number = 4; refusal = 0; product = 0; transition = k; point = x }
 
 -- What the verifier promises of its verdict.
-pub record Verified (n : ℕ) (f ts bytes : List ℕ) (v : Verdict) : Type 0 where
+pub record Verified (n : ℕ) (f ts bytes : List ℕ) (room : ℕ) (v : Verdict) : Type 0 where
   -- It is the definition's, for refused input too.
-  pub is : v ≡ verdict n f ts bytes
+  pub is : v ≡ verdict n f ts bytes room
   -- So are its number and fields.
-  pub fields : fields_of v ≡ fields_of (verdict n f ts bytes)
+  pub fields : fields_of v ≡ fields_of (verdict n f ts bytes room)
   -- Where nothing is refused: passed exactly if conditions (a), (b) and (c) hold,
-  pub covers : first_of (verifier_checks n f ts bytes) ≡ None → (v ≡ passed) ↔ HazardFreeCover n f ts (products n bytes)
+  pub covers : first_of (verifier_checks n f ts bytes room) ≡ None → (v ≡ passed) ↔ HazardFreeCover n f ts (products n bytes)
   -- and exactly if the network is hazard-free.
-  pub hazard_free : first_of (verifier_checks n f ts bytes) ≡ None → (v ≡ passed) ↔ HazardFree n f ts (products n bytes)
+  pub hazard_free : first_of (verifier_checks n f ts bytes room) ≡ None → (v ≡ passed) ↔ HazardFree n f ts (products n bytes)

@@ -11,3 +11,6 @@ pub const MOST_COVER: usize = 10 * MOST_REQUIRED;
 
 // The most products of a network that is verified.
 pub const MOST_PRODUCTS: usize = 3072;
+
+// The most wires of a run: ten inputs for each product.
+pub const MOST_WIRES: usize = 10 * MOST_PRODUCTS;

@@ -26,6 +26,12 @@ pub record Cut (n : ℕ) (bytes : List ℕ) (m size : ℕ) (rest : List ℕ) : T
 pub cut_start : {n : ℕ} {bytes : List ℕ} {m size : ℕ} {rest : List ℕ} → m ≡ 0 → size ≡ n → rest ≡ bytes → Cut n bytes m size rest
 cut_start {n} e s r = record { size' = s; rest' = rw (e, zero-mul n) r }
 
+-- A step of chunks with their places: the place is the count, which rises by one, and the chunk is taken from the rest.
+pub chunk_turn : {j m next size size' : ℕ} {rest : List ℕ} (chunk others : List ℕ) {R F : Type 0}
+    → ((size' ≡ size) × ((rest ≡ chunk ++ others) × (length chunk ≡ size)) × R) × (j ≡ m) × (next ≡ m + 1) × F
+    → (j ≡ m) × (next ≡ m + 1) × (rest ≡ chunk ++ others) × (length chunk ≡ size)
+chunk_turn chunk others ((same, (parts, long), rem), is, more, fits) = (is, more, parts, long)
+
 module _ {n : ℕ} {bytes : List ℕ} {m size : ℕ} {rest : List ℕ} (s : Cut n bytes m size rest) (some : 1 ≤ n) where
   module _ (chunk others : List ℕ) (parts : rest ≡ chunk ++ others) (long : length chunk ≡ size) where
     whole : drop (m * n) bytes ≡ chunk ++ others

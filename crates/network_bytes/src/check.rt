@@ -1,9 +1,9 @@
-// Checks 11 and 12: the network by itself.
+// Checks 11 and 12, of the network by itself, and 15, of the buffer for its wires.
 ghost use Rattle.std.specs.Prelude.{◌≡◌, not, ◌+◌, ◌/◌, ◌≤◌, length, take, drop, IfOk};
 ghost use Rattle.hazard.specs.Limits.{most_products};
 ghost use Rattle.hazard.specs.Search.{first_of};
 ghost use Rattle.hazard.specs.Cube.{is_product};
-ghost use Rattle.hazard.specs.Verdict.{products, products_check, digits_check, network_checks};
+ghost use Rattle.hazard.specs.Verdict.{products, products_check, digits_check, wires_check, network_checks, own_checks};
 ghost use Rattle.refusal.specs.Answer.{refused_by};
 
 use crate::network::NetworkBytes;
@@ -43,7 +43,7 @@ pub fn check_digits(n: Inputs, bytes: &[u8]) -> Result<(), Refusal>
     Ok(())
 }
 
-// Both.
+// 11 and 12.
 pub fn network_checks<'a>(n: Inputs, bytes: &'a [u8]) -> Result<NetworkBytes<'a>, Refusal>
     requires { 1 ≤ n.count }
     ensures { (refused_by result ≡ first_of (network_checks n.count bytes.now)) × IfOk result (λ network. (network.n ≡ n) × (network.bytes.now ≡ bytes.now)) }
@@ -51,4 +51,24 @@ pub fn network_checks<'a>(n: Inputs, bytes: &'a [u8]) -> Result<NetworkBytes<'a>
     check_products(n.count, bytes)?;
     check_digits(n, bytes)?;
     Ok(NetworkBytes { n, bytes })
+}
+
+// 15: the wire buffer, of room numbers, is shorter than two for each input of each product.
+pub fn check_wires(network: NetworkBytes, room: usize) -> Result<(), Refusal>
+    ensures { refused_by result ≡ wires_check network.entry.n.count network.entry.bytes.now room }
+{
+    if room < 2 * network.n.count * network.count() {
+        return Err(Refusal::ShortWires);
+    }
+    Ok(())
+}
+
+// All three.
+pub fn own_checks<'a>(n: Inputs, bytes: &'a [u8], room: usize) -> Result<NetworkBytes<'a>, Refusal>
+    requires { 1 ≤ n.count }
+    ensures { (refused_by result ≡ first_of (own_checks n.count bytes.now room)) × IfOk result (λ network. (network.n ≡ n) × (network.bytes.now ≡ bytes.now)) }
+{
+    let network = network_checks(n, bytes)?;
+    check_wires(network, room)?;
+    Ok(network)
 }

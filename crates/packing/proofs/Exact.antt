@@ -10,11 +10,13 @@ use lib.ListN.{length}
 use Rattle.hazard.specs.Search.{first_of}
 use Rattle.hazard.specs.Refusal.{Refusal, input_checks, Accepted}
 use Rattle.hazard.specs.Minimal.{room_check, blocking, minimiser_checks, Minimised, written, declined, Promise}
-use Rattle.hazard.specs.Verdict.{Fields}
+use Rattle.hazard.specs.Verdict.{products, Fields, fields_of, Verdict, Verified}
+use Rattle.hazard.specs.Shown.{Shown}
 use Rattle.hazard.proofs.Test.{cond_no}
 use Rattle.hazard.proofs.Search.{first_of-append}
-use Rattle.hazard.proofs.Bounds.{minimiser_bounds, minimal_few}
-use Rattle.packing.specs.Packed.{unpacked_refusal, unpacked_answer, unpacked_verdict, RefusalFits, AnswerFits}
+use Rattle.hazard.proofs.Bounds.{minimiser_bounds, minimal_few, verdict_bounds}
+use Rattle.hazard.proofs.Shown.{shown_most}
+use Rattle.packing.specs.Packed.{unpacked_refusal, unpacked_answer, unpacked_verdict, unpacked_wires, RefusalFits, AnswerFits, FindingFits}
 
 -- The low place and the rest of a number.
 low : (m x y : ℕ) → x < m → (x + m * y) % m ≡ x
@@ -66,17 +68,24 @@ written_exact k w e =
     let h : w / 256 ≡ k = omega arith in
     rw (l, h)
 
--- A verdict's fields in their places.
-abbrev pub packed_fields : Fields → ℕ
-packed_fields m = m.number + 256 * (m.refusal + 256 * (m.product + 65536 * (m.transition + 65536 * m.point)))
+-- A verdict's fields and the wires in their places.
+abbrev pub packed_fields : Fields → ℕ → ℕ
+packed_fields m k = m.number + 256 * (m.refusal + 256 * (m.product + 65536 * (m.transition + 128 * (m.point + 1024 * k))))
 
-pub fields_exact : (m : Fields) → m.number < 256 → m.refusal < 256 → m.product < 65536 → m.transition < 65536 → (w : ℕ) → w ≡ packed_fields m → unpacked_verdict w ≡ m
-fields_exact m hn hr hp ht w e =
-    rw e (same (low 256 m.number t hn) (rw a (low 256 m.refusal u hr)) (rw (a, b) (low 65536 m.product v hp))
-    (rw (a, b, c) (low 65536 m.transition m.point ht)) (rw (a, b, c) (high 65536 m.transition m.point ht)))
+pub fields_exact : (m : Fields) (k : ℕ) → m.number < 256 → m.refusal < 256 → m.product < 65536 → m.transition < 128 → m.point < 1024 → (w : ℕ) → w ≡ packed_fields m k
+    → (unpacked_verdict w ≡ m) × (unpacked_wires w ≡ k)
+fields_exact m k hn hr hp ht hx w e =
+    rw e (
+      same (low 256 m.number t hn) (rw a (low 256 m.refusal u hr)) (rw (a, b) (low 65536 m.product v hp)) (rw (a, b, c) (low 128 m.transition x ht))
+          (rw (a, b, c, d) (low 1024 m.point k hx)),
+      rw (a, b, c, d) (high 1024 m.point k hx),
+    )
   where
+    x : ℕ
+    x = m.point + 1024 * k
+
     v : ℕ
-    v = m.transition + 65536 * m.point
+    v = m.transition + 128 * x
 
     u : ℕ
     u = m.product + 65536 * v
@@ -84,7 +93,7 @@ fields_exact m hn hr hp ht w e =
     t : ℕ
     t = m.refusal + 256 * u
 
-    a : packed_fields m / 256 ≡ t
+    a : packed_fields m k / 256 ≡ t
     a = high 256 m.number t hn
 
     b : t / 256 ≡ u
@@ -92,6 +101,9 @@ fields_exact m hn hr hp ht w e =
 
     c : u / 65536 ≡ v
     c = high 65536 m.product v hp
+
+    d : v / 128 ≡ x
+    d = high 128 m.transition x ht
 
     same : {i j k l o : ℕ} → i ≡ m.number → j ≡ m.refusal → k ≡ m.product → l ≡ m.transition → o ≡ m.point
         → ◌≡◌ {A = Fields} (record { number = i; refusal = j; product = k; transition = l; point = o }) m
@@ -112,3 +124,14 @@ module _ {n : ℕ} {f ts : List ℕ} where
           let a : Accepted n f ts = ((first_of-append (input_checks n f ts) (room_check n f ts (length before) ∷ blocking n f ts ∷ [])).0 e).0 in
           let l : length net < 65536 = omega (arith, minimal_few n f ts a m) in
           subst⁻¹ AnswerFits s l
+
+  -- Every verdict does, with the wires that are counted.
+  pub verified-fits : {bytes : List ℕ} {room : ℕ} {v : Verdict} {before after : List ℕ} {size : ℕ}
+      → Verified n f ts bytes room v → Shown f ts (products n bytes) v before after size → FindingFits (fields_of v) size
+  verified-fits {bytes} {room} p h =
+      let b = verdict_bounds n f ts bytes room in
+      record {
+        transition = omega (arith, b.transition, ap (λ (m : Fields). m.transition) p.fields);
+        point = omega (arith, b.point, ap (λ (m : Fields). m.point) p.fields);
+        wires' = omega (arith, shown_most p h);
+      }

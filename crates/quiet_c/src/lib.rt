@@ -5,7 +5,8 @@ ghost use Rattle.hazard.specs.Minimal.{Promise};
 ghost use Rattle.packing.specs.Packed.{unpacked_answer, ReadVerdict};
 
 use minimiser::minimise::minimise;
-use packing::{packed_answer, packed_verdict};
+use packing::answer::packed_answer;
+use packing::verdict::packed_verdict;
 use verifier::verify::verify;
 
 // minimise: its buffer, and its answer packed.
@@ -21,10 +22,16 @@ pub extern "C" fn quiet_minimise(
     packed_answer(minimise(n, table, transitions, cover))
 }
 
-// verify: its verdict packed.
+// verify: its buffer, and its verdict packed.
 #[unsafe(no_mangle)]
-pub extern "C" fn quiet_verify(n: usize, table: &[u8], transitions: &[u16], network: &[u8]) -> u64
-    ensures { ReadVerdict n table.now transitions.now network.now result }
+pub extern "C" fn quiet_verify(
+    n: usize,
+    table: &[u8],
+    transitions: &[u16],
+    network: &[u8],
+    wires: &mut [u16],
+) -> u64
+    ensures { ReadVerdict n table.now transitions.now network.now wires.old wires.new result }
 {
-    packed_verdict(verify(n, table, transitions, network))
+    packed_verdict(verify(n, table, transitions, network, wires))
 }

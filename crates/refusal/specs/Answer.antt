@@ -3,7 +3,7 @@ use Rattle.std.specs.Prelude.{Option, None, Some, Result, Ok, Err}
 use Rattle.hazard.specs.Refusal as spec
 use Rattle.refusal.specs.declared.fields.Fields.{Fields}
 use Rattle.refusal.specs.declared.refusal.Refusal.{Refusal}
-use Rattle.refusal.specs.declared.refusal.Refusal.TheVariants.{Inputs, TableLength, TableByte, ListLength, NoPoint, WideBurst, DontCare, FunctionHazard, ShortBuffer, Blocked, NetworkLength, ProductByte, MalformedText}
+use Rattle.refusal.specs.declared.refusal.Refusal.TheVariants.{Inputs, TableLength, TableByte, ListLength, NoPoint, WideBurst, DontCare, FunctionHazard, ShortBuffer, Blocked, NetworkLength, ProductByte, ShortWires, MalformedText}
 
 -- The number of each refusal, and what it names.
 abbrev pub refusal_of : Refusal → spec.Refusal
@@ -19,6 +19,7 @@ refusal_of ShortBuffer = spec.refusal 9 0 0
 refusal_of (Blocked k x s z) = spec.growth_refusal 10 k x s z
 refusal_of NetworkLength = spec.refusal 11 0 0
 refusal_of (ProductByte j) = spec.product_refusal 12 j
+refusal_of ShortWires = spec.refusal 15 0 0
 refusal_of MalformedText = spec.refusal 13 0 0
 
 -- The refusal that a number and fields tell.

@@ -69,6 +69,7 @@ impl Refusal {
                 product,
                 ..named(12, 0, 0)
             },
+            Refusal::ShortWires => named(15, 0, 0),
             Refusal::MalformedText => named(13, 0, 0),
         }
     }

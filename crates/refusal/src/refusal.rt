@@ -45,6 +45,8 @@ pub enum Refusal {
     ProductByte {
         product: u16,
     },
+    // the wire buffer is shorter than two numbers for each input of each product
+    ShortWires,
     // the text is no problem
     MalformedText,
 }

@@ -3,7 +3,7 @@
 
 use std::io;
 use testing::calls::{Problem, Written};
-use testing::marks::MARK;
+use testing::marks::{MARK, WIRE_MARK};
 use testing::report::RefusalText;
 
 #[derive(Clone, Copy)]
@@ -15,6 +15,22 @@ struct Piece<'a> {
 }
 
 impl<'a> Piece<'a> {
+    // The verdict on a network, with its run if one shows it. No piece has a network of more than nine bytes.
+    fn verifies<R: Print>(&self, rt: &R, network: &[u8]) -> io::Result<()> {
+        let problem = self.problem;
+        let mut wires = [WIRE_MARK; 18];
+        match problem.verified(network, &mut wires) {
+            Err(r) => {
+                let refusal = RefusalText(r);
+                println!(rt; "{refusal}")
+            }
+            Ok(shown) => {
+                let verdict = problem.text(network, shown);
+                println!(rt; "{verdict}")
+            }
+        }
+    }
+
     // The minimiser's answer, and the verifier's verdict on the network that it wrote.
     fn minimises<R: Print>(&self, rt: &R) -> io::Result<()> {
         let mut cover = [MARK; 32];
@@ -31,7 +47,7 @@ impl<'a> Piece<'a> {
                     ..
                 } = written;
                 print!(rt; "products {count}{products}, verdict ")?;
-                self.problem.verifies(rt, products.bytes)
+                self.verifies(rt, products.bytes)
             }
         }
     }
@@ -40,7 +56,7 @@ impl<'a> Piece<'a> {
         let name = self.name;
         print!(rt; "{name} ")?;
         if let Some(network) = self.network {
-            self.problem.verifies(rt, network)
+            self.verifies(rt, network)
         } else {
             self.minimises(rt)
         }

@@ -1,10 +1,9 @@
 // The two calls with nothing promised of their answers: what a test program finds rests on no contract of theirs.
 use crate::products::Products;
-use crate::report::VerdictText;
+use crate::wires::Wires;
 use conditions::fault::Verdict;
 use minimiser::minimise::minimise;
 use refusal::refusal::Refusal;
-use std::io;
 use verifier::verify::verify;
 
 // A problem, as the calls take it.
@@ -24,6 +23,16 @@ pub struct Written<'a> {
     pub rest: &'a [u8],
 }
 
+// A verdict, and what the verifier wrote into a buffer: how many wires, which, and the rest of the buffer. There are none where the buffer
+// is shorter than so many wires.
+#[derive(Clone, Copy)]
+pub struct Shown<'a> {
+    pub verdict: Verdict,
+    pub count: usize,
+    pub wires: Wires<'a>,
+    pub rest: &'a [u16],
+}
+
 impl<'a> Problem<'a> {
     // What the minimiser wrote, or its refusal.
     pub fn minimised<'b>(&self, cover: &'b mut [u8]) -> Result<Written<'b>, Refusal> {
@@ -39,13 +48,18 @@ impl<'a> Problem<'a> {
         })
     }
 
-    pub fn verdict(&self, network: &[u8]) -> Result<Verdict, Refusal> {
-        verify(self.n, self.table, self.transitions, network)
-    }
-
-    // The verdict on a network, which ends its line.
-    pub fn verifies<R: Print>(&self, rt: &R, network: &[u8]) -> io::Result<()> {
-        let verdict = VerdictText(self.verdict(network));
-        println!(rt; "{verdict}")
+    // The verdict on a network with what the verifier wrote, or its refusal.
+    pub fn verified<'b>(&self, network: &[u8], wires: &'b mut [u16]) -> Result<Shown<'b>, Refusal> {
+        let finding = verify(self.n, self.table, self.transitions, network, wires)?;
+        let wires: &'b [u16] = wires;
+        let end = finding.wires.saturating_mul(2);
+        let (numbers, rest) = wires.split_at_checked(end).unwrap_or((&[], wires));
+        let (wires, _) = numbers.as_chunks::<2>();
+        Ok(Shown {
+            verdict: finding.verdict,
+            count: finding.wires,
+            wires: Wires(wires),
+            rest,
+        })
     }
 }

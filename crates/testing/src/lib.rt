@@ -2,6 +2,9 @@
 #![tactic(auto)]
 
 pub mod calls;
+pub mod due;
 pub mod marks;
 pub mod products;
+pub mod replay;
 pub mod report;
+pub mod wires;

@@ -1,4 +1,6 @@
 // How the calls' answers are printed.
+use crate::calls::{Problem, Shown};
+use crate::replay::Run;
 use conditions::fault::Verdict;
 use refusal::fields::Fields;
 use refusal::refusal::Refusal;
@@ -27,28 +29,54 @@ impl fmt::Display for RefusalText {
 
 // The verdict's number by document 01, and the fields that it names.
 #[derive(Clone, Copy)]
-pub struct VerdictText(pub Result<Verdict, Refusal>);
+struct VerdictText(Verdict);
 
 impl fmt::Display for VerdictText {
     fn fmt<W: fmt::Write>(&self, f: &mut fmt::Formatter<W>) -> fmt::Result {
         // Each case has a line of its own: a match is the plainest table of them.
         match self.0 {
-            Err(r) => RefusalText(r).fmt(f),
-            Ok(Verdict::Passed) => write!(f, "1 passed"),
-            Ok(Verdict::HoldsZero { product, point }) => write!(
+            Verdict::Passed => write!(f, "1 passed"),
+            Verdict::HoldsZero { product, point } => write!(
                 f,
                 "2 product, point: {product} {point}"
             ),
-            Ok(
-                Verdict::Intersects {
-                    product,
-                    transition,
-                },
-            ) => write!(f, "3 product, transition: {product} {transition}"),
-            Ok(Verdict::Uncovered { transition, label }) => write!(
+            Verdict::Intersects {
+                product,
+                transition,
+            } => write!(f, "3 product, transition: {product} {transition}"),
+            Verdict::Uncovered { transition, label } => write!(
                 f,
                 "4 transition, label: {transition} {label}"
             ),
         }
+    }
+}
+
+// The verdict on a network, with the run if one is due. Wires that none asks for are told.
+#[derive(Clone, Copy)]
+pub struct ShownText<'a> {
+    shown: Shown<'a>,
+    run: Option<Run<'a>>,
+}
+
+impl<'a> Problem<'a> {
+    pub fn text<'b>(&self, network: &'b [u8], shown: Shown<'b>) -> ShownText<'b> {
+        let run = self.run(network, shown);
+        ShownText { shown, run }
+    }
+}
+
+impl<'a> fmt::Display for ShownText<'a> {
+    fn fmt<W: fmt::Write>(&self, f: &mut fmt::Formatter<W>) -> fmt::Result {
+        let verdict = VerdictText(self.shown.verdict);
+        write!(f, "{verdict}")?;
+        if let Some(run) = self.run {
+            return write!(f, ", {run}");
+        }
+        if self.shown.count == 0 {
+            return Ok(());
+        }
+        let wires = self.shown.wires;
+        write!(f, ", WIRES{wires}")
     }
 }

@@ -1,9 +1,10 @@
 // The verifier's call.
 ghost use Rattle.std.specs.Prelude.{◌≡◌, length};
-ghost use Rattle.hazard.specs.Verdict as spec;
-ghost use Rattle.hazard.specs.Verdict.{products, Verified};
+ghost use Rattle.hazard.specs.Verdict.{products, fault, Verified};
+ghost use Rattle.hazard.specs.Shown.{Shown};
 ghost use Rattle.context.specs.Context.{table_in};
-ghost use Rattle.conditions.specs.Answer.{verdict_of, judged_of};
+ghost use Rattle.conditions.specs.Answer.{verdict_of};
+ghost use Rattle.witness.specs.Finding.{found_of, counted_of};
 
 use crate::claim::Claim;
 use crate::judge::judge;
@@ -12,15 +13,17 @@ use checks::checked::Checked;
 use checks::stored::store_required;
 use conditions::fault::Verdict;
 use hazard::limits::MOST_REQUIRED;
-use network_bytes::check::network_checks;
+use network_bytes::check::own_checks;
 use network_bytes::network::NetworkBytes;
 use refusal::refusal::Refusal;
+use witness::finding::Finding;
+use witness::run::show;
 
 // The verdict for a problem with so many required cubes that they are stored anew, in an array that has room for all.
 // The minimiser has a function like it: one for both would take what is done with the words as a closure, with a contract longer than these lines.
 fn judge_large(checked: &Checked, network: NetworkBytes) -> Verdict
     requires { network.n ≡ checked.now.problem.planes.n }
-    ensures { verdict_of result ≡ spec.fault network.entry.n.count (table_in checked.now.problem.planes) checked.now.problem.transitions.list.now (products network.entry.n.count network.entry.bytes.now) }
+    ensures { verdict_of result ≡ fault network.entry.n.count (table_in checked.now.problem.planes) checked.now.problem.transitions.list.now (products network.entry.n.count network.entry.bytes.now) }
 {
     let mut required = [0u64; MOST_REQUIRED];
     let count = store_required(&checked.problem, &mut required);
@@ -31,30 +34,44 @@ fn judge_large(checked: &Checked, network: NetworkBytes) -> Verdict
     })
 }
 
-// Checks 11 and 12, and the verdict, of a network for a problem that the input rules accept.
-fn verify_network(checked: &Checked, network: &[u8]) -> Result<Verdict, Refusal>
-    ensures { Verified checked.now.problem.planes.n.count (table_in checked.now.problem.planes) checked.now.problem.transitions.list.now network.now (judged_of result) }
+// The verdict on a network that is not refused, for a problem that the input rules accept. No run is written for it here.
+fn judge_network(checked: &Checked, network: NetworkBytes) -> Verdict
+    requires { network.n ≡ checked.now.problem.planes.n }
+    ensures { verdict_of result ≡ fault network.entry.n.count (table_in checked.now.problem.planes) checked.now.problem.transitions.list.now (products network.entry.n.count network.entry.bytes.now) }
 {
-    let network = network_checks(checked.problem.planes.n, network)?;
     if checked.few.len() < checked.count {
-        return Ok(judge_large(checked, network));
+        return judge_large(checked, network);
     }
-    Ok(judge(Claim {
+    judge(Claim {
         context: &checked.context,
         required: &checked.few[0..checked.count],
         network,
-    }))
+    })
 }
 
-// Whether the network is hazard-free for the table and the transitions: a refusal, or passed, or the first fault.
+// The verifier's own checks, and the verdict, of a network for a problem that the input rules accept; then the run that shows the verdict.
+fn verify_network(checked: &Checked, network: &[u8], wires: &mut [u16]) -> Result<Finding, Refusal>
+    ensures verified { Verified checked.now.problem.planes.n.count (table_in checked.now.problem.planes) checked.now.problem.transitions.list.now network.now (length wires.old) (found_of result) }
+    ensures shown { Shown (table_in checked.now.problem.planes) checked.now.problem.transitions.list.now (products checked.now.problem.planes.n.count network.now) (found_of result) wires.old wires.new (counted_of result) }
+{
+    let network = own_checks(checked.problem.planes.n, network, wires.len())?;
+    let verdict = judge_network(checked, network);
+    let wires = show(&checked.problem, network, verdict, wires);
+    Ok(Finding { verdict, wires })
+}
+
+// Whether the network is hazard-free for the table and the transitions: a refusal, or passed, or the first fault. A run that shows the fault,
+// if it takes one, is written into the buffer, and its wires are counted.
 pub fn verify(
     n: usize,
     table: &[u8],
     transitions: &[u16],
     network: &[u8],
-) -> Result<Verdict, Refusal>
-    ensures { Verified n table.now transitions.now network.now (judged_of result) }
+    wires: &mut [u16],
+) -> Result<Finding, Refusal>
+    ensures verified { Verified n table.now transitions.now network.now (length wires.old) (found_of result) }
+    ensures shown { Shown table.now transitions.now (products n network.now) (found_of result) wires.old wires.new (counted_of result) }
 {
     let checked = check(n, table, transitions)?;
-    verify_network(&checked, network)
+    verify_network(&checked, network, wires)
 }

@@ -9,8 +9,7 @@ use lib.ListN.{length, drop, drop_of_length-le}
 use lib.Seq.{drop-cons}
 use Rattle.hazard.specs.Cube.{Cube, bit}
 use Rattle.hazard.specs.Cover.{Network, product_at}
-use Rattle.hazard.specs.Run.{Wire, wires_of, wires}
-use Rattle.hazard.proofs.Wire.{wire}
+use Rattle.hazard.specs.Run.{Wire, wire, wires_of, wires}
 use Rattle.hazard.specs.Pulse.{passing}
 use Rattle.hazard.proofs.Point.{dig}
 use Rattle.witness.specs.Phase.{wire_if}

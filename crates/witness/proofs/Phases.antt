@@ -10,8 +10,7 @@ use lib.Seq.{length-take-le}
 use Rattle.hazard.specs.Cube.{Cube, bit}
 use Rattle.hazard.specs.Transition.{Kind}
 use Rattle.hazard.specs.Cover.{Network, product_at}
-use Rattle.hazard.specs.Run.{Wire}
-use Rattle.hazard.proofs.Wire.{wire}
+use Rattle.hazard.specs.Run.{Wire, wire}
 use Rattle.hazard.specs.Shown.{numbers}
 use Rattle.hazard.specs.Pulse.{phase_of, in_phase, pulse}
 use Rattle.hazard.proofs.Point.{dig}

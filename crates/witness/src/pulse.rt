@@ -6,14 +6,13 @@ ghost use Rattle.hazard.specs.Verdict as spec;
 ghost use Rattle.hazard.specs.Pulse.{run_for};
 ghost use Rattle.context.specs.Context.{table_in};
 ghost use Rattle.context.specs.declared.planes.Planes.{Planes};
-ghost use Rattle.conditions.specs.Answer.{judged_of};
+ghost use Rattle.conditions.specs.Answer.{verdict_of};
 ghost use Rattle.witness.specs.Shows.{witness_of, PulseOf, Ends, Named, Reads};
 
 use conditions::fault::Verdict;
 use kinds::kind::{Kind, kind_of};
 use kinds::transition::{Transition, transition_at};
 use points::set::PointSet;
-use refusal::refusal::Refusal;
 
 // A run to be written: of a transition of this kind, for a fault of this product.
 #[derive(Clone, Copy)]
@@ -52,20 +51,17 @@ fn for_cube(ones: &PointSet, list: &[u16], k: usize) -> Option<Pulse>
 }
 
 // The run that shows a verdict, if one does.
-pub fn witness_for(ones: &PointSet, list: &[u16], v: Result<Verdict, Refusal>) -> Option<Pulse>
-    requires { Ends list.now × Named list.now (judged_of v) }
-    ensures { (planes : Planes) (n : ℕ) → Reads planes n ones.now list.now → (net : Network) → witness_of result net ≡ run_for (table_in planes) list.now net (judged_of v) }
+pub fn witness_for(ones: &PointSet, list: &[u16], v: Verdict) -> Option<Pulse>
+    requires { Ends list.now × Named list.now (verdict_of v) }
+    ensures { (planes : Planes) (n : ℕ) → Reads planes n ones.now list.now → (net : Network) → witness_of result net ≡ run_for (table_in planes) list.now net (verdict_of v) }
 {
     match v {
-        Err(_) => None,
-        Ok(Verdict::Passed) => None,
-        Ok(Verdict::HoldsZero { .. }) => None,
-        Ok(
-            Verdict::Intersects {
-                product,
-                transition,
-            },
-        ) => Some(pulse_at(ones, list, product, transition as usize)),
-        Ok(Verdict::Uncovered { transition, .. }) => for_cube(ones, list, transition as usize),
+        Verdict::Passed => None,
+        Verdict::HoldsZero { .. } => None,
+        Verdict::Intersects {
+            product,
+            transition,
+        } => Some(pulse_at(ones, list, product, transition as usize)),
+        Verdict::Uncovered { transition, .. } => for_cube(ones, list, transition as usize),
     }
 }

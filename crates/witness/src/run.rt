@@ -3,7 +3,7 @@ ghost use Rattle.std.specs.Prelude.{◌≡◌, ◌*◌, ◌≤◌, length};
 ghost use Rattle.hazard.specs.Verdict.{products};
 ghost use Rattle.hazard.specs.Pulse.{run_for};
 ghost use Rattle.context.specs.Context.{table_in};
-ghost use Rattle.conditions.specs.Answer.{judged_of};
+ghost use Rattle.conditions.specs.Answer.{verdict_of};
 ghost use Rattle.witness.specs.Shows.{run_in, Named, Written};
 
 use crate::pulse::{Pulse, witness_for};
@@ -11,7 +11,6 @@ use crate::write::write_phase;
 use conditions::fault::Verdict;
 use kinds::problem::Problem;
 use network_bytes::network::NetworkBytes;
-use refusal::refusal::Refusal;
 
 // The run, phase after phase; how many wires.
 fn write_run(p: Pulse, network: NetworkBytes, wires: &mut [u16]) -> usize
@@ -25,15 +24,10 @@ fn write_run(p: Pulse, network: NetworkBytes, wires: &mut [u16]) -> usize
 }
 
 // What shows the verdict is written, if that is a run; how many wires. The rest of the buffer keeps its contents.
-pub fn show(
-    problem: &Problem,
-    network: NetworkBytes,
-    v: Result<Verdict, Refusal>,
-    wires: &mut [u16],
-) -> usize
-    requires named { Named problem.now.transitions.list.now (judged_of v) }
-    requires room { 2 * length (run_for (table_in problem.now.planes) problem.now.transitions.list.now (products network.n.count network.bytes.now) (judged_of v)) ≤ length wires.old }
-    ensures { Written (run_for (table_in problem.now.planes) problem.now.transitions.list.now (products network.entry.n.count network.entry.bytes.now) (judged_of v)) wires.old wires.new result }
+pub fn show(problem: &Problem, network: NetworkBytes, v: Verdict, wires: &mut [u16]) -> usize
+    requires named { Named problem.now.transitions.list.now (verdict_of v) }
+    requires room { 2 * length (run_for (table_in problem.now.planes) problem.now.transitions.list.now (products network.n.count network.bytes.now) (verdict_of v)) ≤ length wires.old }
+    ensures { Written (run_for (table_in problem.now.planes) problem.now.transitions.list.now (products network.entry.n.count network.entry.bytes.now) (verdict_of v)) wires.old wires.new result }
 {
     match witness_for(&problem.planes.ones, problem.transitions.list, v) {
         Some(p) => write_run(p, network, wires),

@@ -9,6 +9,8 @@ pub struct Case {
     pub buffer: Vec<u8>,
     /// for the verifier: one that passes, so that all three conditions are tried to the end
     pub network: Vec<u8>,
+    /// for the verifier: just long enough for a run, though a network that passes has none
+    pub wires: Vec<u16>,
     required: usize,
 }
 
@@ -54,10 +56,12 @@ impl Case {
         let mut buffer = vec![0; n * required];
         let products = fast::minimise(*n, table, transitions, &mut buffer).ok()?;
         let network = buffer[..n * products].to_vec();
+        let wires = vec![0; 2 * network.len()];
         Some(Case {
             problem,
             buffer,
             network,
+            wires,
             required,
         })
     }
@@ -84,6 +88,7 @@ impl Case {
             long.extend_from_slice(&self.network[..n]);
         }
         long.extend_from_slice(&self.network);
+        self.wires = vec![0; 2 * long.len()];
         self.network = long;
         self
     }

@@ -23,31 +23,23 @@ pub fn run(implementation: Implementation, call: Call, cases: &mut Cases) {
     for case in &mut cases.cases {
         let p = black_box(&case.problem);
         let (n, table, transitions) = (p.n, &p.table[..], &p.transitions[..]);
+        let (cover, network, wires) = (&mut case.buffer, &case.network, &mut case.wires);
         match (call, implementation) {
             (Call::Minimise, Implementation::Proved) => {
-                black_box(quiet::packed::minimise(
-                    n,
-                    table,
-                    transitions,
-                    &mut case.buffer,
-                ));
+                black_box(quiet::packed::minimise(n, table, transitions, cover));
             }
             (Call::Minimise, Implementation::Independent) => {
-                let _ = black_box(fast::minimise(n, table, transitions, &mut case.buffer));
+                let _ = black_box(fast::minimise(n, table, transitions, cover));
             }
             (Call::Minimise, Implementation::Joining) => {
-                let _ = black_box(fast::minimise_joining(
-                    n,
-                    table,
-                    transitions,
-                    &mut case.buffer,
-                ));
+                let _ = black_box(fast::minimise_joining(n, table, transitions, cover));
             }
             (Call::Verify, Implementation::Proved) => {
-                black_box(quiet::packed::verify(n, table, transitions, &case.network));
+                let answer = quiet::packed::verify(n, table, transitions, network, wires);
+                black_box(answer);
             }
             (Call::Verify, _) => {
-                let _ = black_box(fast::verify(n, table, transitions, &case.network));
+                let _ = black_box(fast::verify(n, table, transitions, network, wires));
             }
         }
     }

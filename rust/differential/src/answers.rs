@@ -1,5 +1,7 @@
 //! One call of each kind, compared.
 
+use crate::shown::Shown;
+use crate::wrapper::{same_refusal, same_verdict};
 use crate::Tally;
 use fast::promise;
 use problems::{Problem, Rng};
@@ -14,9 +16,9 @@ fn packed_refusal(r: &fast::Refusal) -> u64 {
 }
 
 /// The verifier's answer, packed by the stated definition.
-fn packed_verdict(answer: &Result<fast::Verdict, fast::Refusal>) -> u64 {
+fn packed_verdict(answer: &Result<fast::Finding, fast::Refusal>) -> u64 {
     use fast::Verdict::*;
-    let (verdict, refusal, product, transition, point) = match *answer {
+    let (verdict, refusal, product, transition, point) = match answer.map(|found| found.verdict) {
         Err(r) => (0, r.number, r.product, r.transition, r.point),
         Ok(Passed) => (1, 0, 0, 0, 0),
         Ok(HoldsZero { product, point }) => (2, 0, product, 0, point),
@@ -26,11 +28,13 @@ fn packed_verdict(answer: &Result<fast::Verdict, fast::Refusal>) -> u64 {
         }) => (3, 0, product, transition, 0),
         Ok(Uncovered { transition, label }) => (4, 0, 0, transition, label),
     };
+    let wires = answer.map_or(0, |found| found.wires as u64);
     verdict
         + (u64::from(refusal) << 8)
         + (u64::from(product) << 16)
         + (u64::from(transition) << 32)
-        + (u64::from(point) << 48)
+        + (u64::from(point) << 39)
+        + (wires << 49)
 }
 
 /// Both minimisers on one problem and a buffer of some length. Returns the proved one's network, if there is one.
@@ -107,57 +111,50 @@ pub fn same_minimise(
     }
 }
 
-/// Both verifiers on one problem and a network. Returns the verdict's number.
-pub fn same_verify(tally: &mut Tally, problem: &Problem, network: &[u8]) -> u8 {
+/// Numbers that no wire has, and each other than its neighbours, so that every write is seen.
+fn marks(rng: &mut Rng, length: usize) -> Vec<u16> {
+    let first = rng.next() as usize;
+    (0..length)
+        .map(|place| first.wrapping_add(place) as u16 | 0x8000)
+        .collect()
+}
+
+/// Both verifiers on one problem, a network and a wire buffer of some length. Returns the verdict's number.
+///
+/// The answer has to be the same in every field, and the buffer in every number: a caller may be given any run that is not allowed, but both
+/// implementations choose the same. It is replayed all the same. The numbers after it, all where there is none, have to be as they were.
+pub fn same_verify(
+    rng: &mut Rng,
+    tally: &mut Tally,
+    problem: &Problem,
+    network: &[u8],
+    length: usize,
+) -> u8 {
     let Problem {
         n,
         table,
         transitions,
     } = problem;
-    let answer = quiet::packed::verify(*n, table, transitions, network);
-    let expected = fast::verify(*n, table, transitions, network);
-    let context = || format!("verify {network:?}, {problem:?}");
+    let before = marks(rng, length);
+    let (mut wires, mut own) = (before.clone(), before.clone());
+    let answer = quiet::packed::verify(*n, table, transitions, network, &mut wires);
+    let expected = fast::verify(*n, table, transitions, network, &mut own);
+    let context = || format!("verify {network:?}, {length} numbers, {problem:?}");
     assert_eq!(answer, packed_verdict(&expected), "{}", context());
-    if let (pairs, []) = transitions.as_chunks::<2>() {
-        match (quiet::verify(*n, table, pairs, network), expected) {
-            (Ok(v), Ok(_)) => assert_eq!(u64::from(v.number()), answer & 255),
-            (Err(refusal), Err(expected)) => same_refusal(refusal, expected),
-            _ => panic!("{}", context()),
-        }
-    }
-    tally.verify += 1;
-    tally.verdicts[(answer & 255) as usize] += 1;
-    tally.verdicts_alone[(answer & 255) as usize] += u64::from(transitions.is_empty());
+    assert_eq!(wires, own, "{}", context());
+    let shown = expected.map_or(Shown::Nothing, |found| Shown::of(problem, found.verdict));
+    let (run, rest) = wires.split_at(2 * (answer >> 49) as usize);
+    assert_eq!(rest, &before[run.len()..], "{}", context());
+    let checked = shown.check(problem, network, run);
+    assert_eq!(checked, Ok(()), "{}", context());
     if let Err(refusal) = expected {
-        tally.verify_refusals[usize::from(refusal.number)] += 1;
+        let unpacked = quiet::packed::verify_refusal(answer);
+        same_refusal(unpacked.expect("verdict 0"), refusal);
     }
+    if let (pairs, []) = transitions.as_chunks::<2>() {
+        same_verdict(problem, pairs, network);
+    }
+    tally.count_verify(answer, transitions.is_empty());
+    tally.count_shown(shown, run.is_empty());
     (answer & 255) as u8
-}
-
-/// The wrapper's refusal against the independent one.
-fn same_refusal(refusal: quiet::Refusal, expected: fast::Refusal) {
-    use quiet::Refusal::*;
-    let mut named = fast::Refusal {
-        number: refusal.number(),
-        ..Default::default()
-    };
-    match refusal {
-        TableByte { point } => named.point = point,
-        EndPoint { transition } | Burst { transition } => named.transition = transition,
-        DontCare { transition, point } | Rule { transition, point } => {
-            (named.transition, named.point) = (transition, point);
-        }
-        Blocked {
-            transition,
-            label,
-            steps,
-            lowest_zero,
-        } => {
-            (named.transition, named.point) = (transition, label);
-            (named.steps, named.lowest) = (steps, lowest_zero);
-        }
-        NetworkByte { product } => named.product = product,
-        _ => {}
-    }
-    assert_eq!(named, expected);
 }

@@ -257,6 +257,23 @@ pub fn buffer_length(rng: &mut Rng, p: &Problem) -> usize {
     }
 }
 
+/// Numbers that a wire buffer has to have: two for each input of each product.
+pub fn wires_needed(n: usize, network: &[u8]) -> usize {
+    2 * (network.len() - network.len() % n.max(1))
+}
+
+/// Wire buffer lengths: exact, one short, longer, empty, any.
+pub fn wires_length(rng: &mut Rng, p: &Problem, network: &[u8]) -> usize {
+    let exact = wires_needed(p.n, network);
+    match rng.below(20) {
+        0 => exact.saturating_sub(1),
+        1 => 0,
+        2 => rng.below(exact + 1),
+        3..=5 => exact + 1 + rng.below(40),
+        _ => exact,
+    }
+}
+
 /// A network near the given one, or a random one.
 pub fn network(rng: &mut Rng, p: &Problem, made: Option<&[u8]>) -> Vec<u8> {
     let n = p.n.clamp(1, 11);
@@ -284,19 +301,31 @@ fn cell(rng: &mut Rng, absent: usize) -> u8 {
 }
 
 fn change(rng: &mut Rng, n: usize, network: &mut Vec<u8>) {
+    match rng.below(18) {
+        way @ 0..=5 => change_cell(rng, way, network),
+        way @ 6..=11 => change_products(rng, way, n, network),
+        way @ 12..=15 => damage_network(rng, way, n, network),
+        way => halve_products(rng, way, n, network),
+    }
+}
+
+/// Any cell; or a literal more, so that a product may fail to hold a cube or to contain a start point.
+fn change_cell(rng: &mut Rng, way: usize, network: &mut [u8]) {
+    if network.is_empty() {
+        return;
+    }
+    let at = rng.below(network.len());
+    if way <= 3 {
+        network[at] = rng.below(3) as u8;
+    } else if network[at] == 2 {
+        network[at] = rng.below(2) as u8;
+    }
+}
+
+/// A product out, in, or twice; or all in another order.
+fn change_products(rng: &mut Rng, way: usize, n: usize, network: &mut Vec<u8>) {
     let count = network.len() / n;
-    match rng.below(16) {
-        0..=3 if count > 0 => {
-            let at = rng.below(network.len());
-            network[at] = rng.below(3) as u8;
-        }
-        // a literal more, so that a product may fail to hold a cube or to contain a start point
-        4 | 5 if count > 0 => {
-            let at = rng.below(network.len());
-            if network[at] == 2 {
-                network[at] = rng.below(2) as u8;
-            }
-        }
+    match way {
         6 | 7 if count > 0 => {
             let j = rng.below(count);
             network.drain(n * j..n * (j + 1));
@@ -312,6 +341,14 @@ fn change(rng: &mut Rng, n: usize, network: &mut Vec<u8>) {
             network.extend_from_within(n * j..n * (j + 1));
         }
         11 if count > 1 => network.rotate_left(n * rng.below(count)),
+        _ => {}
+    }
+}
+
+/// What checks 11 and 12 find, and what is just short of it.
+fn damage_network(rng: &mut Rng, way: usize, n: usize, network: &mut Vec<u8>) {
+    let count = network.len() / n;
+    match way {
         12 => {
             network.pop();
         }
@@ -322,7 +359,7 @@ fn change(rng: &mut Rng, n: usize, network: &mut Vec<u8>) {
                 network[at] = rng.pick(&[3, 4, 7, 255]);
             }
         }
-        // the edge of check 11; the long networks are dear, so there are few
+        // the long networks are dear, so there are few
         15 if count > 0 && rng.below(40) == 0 => {
             let most = fast::MOST_PRODUCTS;
             let length = n * rng.pick(&[most - 1, most, most, most + 1]);
@@ -330,5 +367,27 @@ fn change(rng: &mut Rng, n: usize, network: &mut Vec<u8>) {
             *network = long;
         }
         _ => {}
+    }
+}
+
+/// One product in two halves, or all. At rest the halves give the same, but a cube that takes both lies in no single product.
+fn halve_products(rng: &mut Rng, way: usize, n: usize, network: &mut Vec<u8>) {
+    let count = network.len() / n;
+    if way == 17 {
+        let input = rng.below(n);
+        (0..count).for_each(|product| halve(network, n, product, input));
+    } else if count > 0 {
+        halve(network, n, rng.below(count), rng.below(n));
+    }
+}
+
+/// A product in two halves, if it has no literal on the input.
+fn halve(network: &mut Vec<u8>, n: usize, product: usize, input: usize) {
+    let start = n * product;
+    if network[start + input] == 2 {
+        network[start + input] = 0;
+        let half = network.len();
+        network.extend_from_within(start..start + n);
+        network[half + input] = 1;
     }
 }

@@ -2,7 +2,10 @@
 
 mod answers;
 pub mod arguments;
+pub mod replay;
+mod shown;
 mod tally;
+mod wrapper;
 
 pub use answers::{same_minimise, same_verify};
 pub use tally::Tally;

@@ -21,12 +21,14 @@ fn both_agree() {
             made = same_minimise(&mut rng, &mut tally, &problem, length).or(made);
         }
         if let Some(network) = &made {
-            let verdict = same_verify(&mut tally, &problem, network);
+            let length = arguments::wires_needed(problem.n, network);
+            let verdict = same_verify(&mut rng, &mut tally, &problem, network, length);
             assert_eq!(verdict, 1, "{network:?}, {problem:?}");
         }
         for _ in 0..3 {
             let network = arguments::network(&mut rng, &problem, made.as_deref());
-            same_verify(&mut tally, &problem, &network);
+            let length = arguments::wires_length(&mut rng, &problem, &network);
+            same_verify(&mut rng, &mut tally, &problem, &network, length);
         }
     }
     println!("seed {seed}\n{tally}");

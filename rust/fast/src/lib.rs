@@ -17,10 +17,11 @@ mod primes;
 mod problem;
 pub mod promise;
 mod refusal;
+mod run;
 mod verify;
 
 pub use minimise::{minimise, minimise_joining};
 pub use primes::primes_over;
 pub use problem::{required_count, required_cubes, MOST_MOVING};
 pub use refusal::Refusal;
-pub use verify::{verify, Verdict, MOST_PRODUCTS};
+pub use verify::{verify, Finding, Verdict, MOST_PRODUCTS};

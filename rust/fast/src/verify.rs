@@ -6,6 +6,7 @@ use crate::legal::Legal;
 use crate::planes::planes;
 use crate::problem::{Problem, Required};
 use crate::refusal::Refusal;
+use crate::run::show;
 
 pub const MOST_PRODUCTS: usize = 3072;
 
@@ -16,6 +17,13 @@ pub enum Verdict {
     HoldsZero { product: u16, point: u16 },
     Intersects { product: u16, transition: u16 },
     Uncovered { transition: u16, label: u16 },
+}
+
+/// The verdict, and how many wires of the run that shows it were written.
+#[derive(Clone, Copy, Debug, PartialEq, Eq)]
+pub struct Finding {
+    pub verdict: Verdict,
+    pub wires: usize,
 }
 
 /// The products of a network, or the refusal of check 11 or 12.
@@ -78,6 +86,8 @@ impl Block {
     }
 }
 
+/// Not inlined: where its loop lies in memory would depend on the code around it, and its time by half on where it lies.
+#[inline(never)]
 fn covered(n: usize, blocks: &[Block], r: &Required) -> bool {
     let mut cells = [2; 10];
     for (i, cell) in cells[..n].iter_mut().enumerate() {
@@ -88,40 +98,52 @@ fn covered(n: usize, blocks: &[Block], r: &Required) -> bool {
     blocks.iter().any(|b| b.covers(&cells[..n]))
 }
 
-/// Whether the network is hazard-free: a refusal, or passed, or the first fault.
+/// Whether the network is hazard-free: a refusal, or passed, or the first fault, with the run that shows it. Check 15 asks for a buffer of
+/// two numbers for each input of each product.
 pub fn verify(
     n: usize,
     table: &[u8],
     transitions: &[u16],
     network: &[u8],
-) -> Result<Verdict, Refusal> {
+    wires: &mut [u16],
+) -> Result<Finding, Refusal> {
     let problem = Problem::read(n, table, transitions)?;
     let products = products_of(n, network)?;
-    let legal = Legal::new(&problem);
+    if wires.len() < 2 * n * products.len() {
+        return Err(Refusal::new(15));
+    }
+    let verdict = fault(n, &problem, &products);
+    let wires = show(verdict, &products, table, transitions, wires);
+    Ok(Finding { verdict, wires })
+}
+
+/// Passed, or the first fault.
+fn fault(n: usize, problem: &Problem, products: &[Cube]) -> Verdict {
+    let legal = Legal::new(problem);
     for (j, &product) in products.iter().enumerate() {
         if let Some(point) = legal.lowest_zero(product) {
-            return Ok(Verdict::HoldsZero {
+            return Verdict::HoldsZero {
                 product: j as u16,
                 point,
-            });
+            };
         }
     }
     for (j, &product) in products.iter().enumerate() {
         let illegal = legal.illegal(product);
         if illegal != 0 {
-            return Ok(Verdict::Intersects {
+            return Verdict::Intersects {
                 product: j as u16,
                 transition: problem.privileged[illegal.trailing_zeros() as usize].transition,
-            });
+            };
         }
     }
     let blocks: Vec<Block> = products.chunks(64).map(Block::new).collect();
     let unmet = problem.required.iter().find(|r| !covered(n, &blocks, r));
-    Ok(match unmet {
+    match unmet {
         Some(r) => Verdict::Uncovered {
             transition: r.transition,
             label: r.label,
         },
         None => Verdict::Passed,
-    })
+    }
 }

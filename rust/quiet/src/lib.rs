@@ -5,8 +5,9 @@
 //! A product is n bytes, input 0 first: 0 for an inverted literal, 1 for a plain one, 2 for none.
 //!
 //! [`minimise`] writes a hazard-free network in which no product can be dropped and none can be widened, or says why there is none.
-//! [`verify`] passes exactly the hazard-free networks, and else names the first fault. Both are proved for all arguments; this crate
-//! passes slices to them and unpacks what they return.
+//! [`verify`] passes exactly the hazard-free networks, and else names the first fault and shows it: by a run, an order of the [wires](Wire) in
+//! which the output is wrong, or by a point where the network is wrong at rest. Both are proved for all arguments; this crate passes slices
+//! to them and unpacks what they return.
 //!
 //! ```
 //! // the product of inputs 0 and 1 has to stay while input 2 changes; the others hold the points 1 and 6, which no transition visits
@@ -50,10 +51,12 @@ pub mod packed;
 mod product;
 mod refusal;
 mod verdict;
+mod wire;
 
 pub use product::Product;
 pub use refusal::Refusal;
 pub use verdict::Verdict;
+pub use wire::Wire;
 
 /// A start point and an end point, which differ in at most [`MOST_MOVING`] inputs.
 pub type Transition = [u16; 2];
@@ -69,6 +72,9 @@ pub const MOST_REQUIRED: usize = 3072;
 
 /// The most products of a network that is verified.
 pub const MOST_PRODUCTS: usize = 3072;
+
+/// No network that is verified has more literals, so no run more wires. A buffer of twice as many numbers is always long enough.
+pub const MOST_WIRES: usize = MOST_INPUTS * MOST_PRODUCTS;
 
 /// Writes a minimal hazard-free network into `cover`, one product of n bytes after another, and returns how many there are.
 ///
@@ -109,23 +115,55 @@ pub fn products(
 }
 
 /// Whether a network, products of n bytes one after another, is hazard-free for the table and the transitions: passed, or the first
-/// fault. A 1 that no transition visits has no transition: where it is left uncovered, their number is named, which is 0 for an empty
-/// list. A caller tells it from a transition by the length of the list.
+/// fault, with what shows it. A 1 that no transition visits has no transition: where it is left uncovered, their number is named, which is
+/// 0 for an empty list. A caller tells it from a transition by the length of the list.
+///
+/// Here the output has to stay 1, and is 0 while one wire has moved and the other has not:
 ///
 /// ```
-/// use quiet::Verdict;
+/// use quiet::{Verdict, Wire};
 /// let table = [0, 1, 0, 1, 0, 0, 1, 1];
+/// let run = vec![Wire { product: 0, input: 2 }, Wire { product: 1, input: 2 }];
 /// assert_eq!(
 ///     quiet::verify(3, &table, &[[3, 7]], &[1, 2, 0, 2, 1, 1]),
-///     Ok(Verdict::Uncovered { transition: 0, label: 7 })
+///     Ok(Verdict::Uncovered { transition: 0, label: 7, run: Some(run) })
+/// );
+/// ```
+///
+/// Here it has to fall once, and is 1, 1, 0, 1, 0: product 0 comes on when both others are off.
+///
+/// ```
+/// # use quiet::{Verdict, Wire};
+/// let table = [0, 2, 1, 1, 1, 2, 1, 0];
+/// let network = [2, 1, 0, 0, 1, 2, 0, 2, 1];
+/// let wires = [[1, 1], [2, 2], [0, 2], [0, 1]];
+/// let run = wires.map(|[product, input]| Wire { product, input }).to_vec();
+/// assert_eq!(
+///     quiet::verify(3, &table, &[[2, 7], [6, 0]], &network),
+///     Ok(Verdict::Intersects { product: 0, transition: 1, run })
+/// );
+/// ```
+///
+/// A run is empty where no wire moves: the output is 0 all the time. Where a label or point shows the fault at rest there is no run:
+///
+/// ```
+/// # use quiet::Verdict;
+/// let table = [0, 1, 0, 1, 0, 0, 1, 1];
+/// assert_eq!(
+///     quiet::verify(3, &table, &[[3, 7]], &[]),
+///     Ok(Verdict::Uncovered { transition: 0, label: 7, run: Some(vec![]) })
 /// );
 /// assert_eq!(
 ///     quiet::verify(3, &table, &[[3, 7]], &[1, 1, 2]),
-///     Ok(Verdict::Uncovered { transition: 1, label: 1 })
+///     Ok(Verdict::Uncovered { transition: 1, label: 1, run: None })
 /// );
 /// assert_eq!(
 ///     quiet::verify(3, &table, &[], &[1, 2, 0]),
-///     Ok(Verdict::Uncovered { transition: 0, label: 6 })
+///     Ok(Verdict::Uncovered { transition: 0, label: 6, run: None })
+/// );
+/// assert_eq!(
+///     quiet::verify(3, &table, &[[3, 7]], &[1, 2, 2]),
+///     Ok(Verdict::HoldsZero { product: 0, point: 5 })
 /// );
 /// ```
 pub fn verify(
@@ -134,10 +172,8 @@ pub fn verify(
     transitions: &[Transition],
     network: &[u8],
 ) -> Result<Verdict, Refusal> {
-    Verdict::unpacked(packed::verify(
-        n,
-        table,
-        transitions.as_flattened(),
-        network,
-    ))
+    // two numbers for each byte are what check 15 asks for; a network of more bytes is refused before it
+    let mut wires = vec![0; 2 * network.len().min(MOST_WIRES)];
+    let answer = packed::verify(n, table, transitions.as_flattened(), network, &mut wires);
+    Verdict::unpacked(answer, table, transitions, &wires)
 }

@@ -42,10 +42,13 @@ pub enum Refusal {
     NetworkLength,
     /// 12: verifier: a byte above 2 in the network, in the first such product.
     NetworkByte { product: u16 },
+    /// 15: verifier: the wire buffer is shorter than 2 × n × products numbers. [`packed::verify`](crate::packed::verify) alone is lent one:
+    /// [`verify`](crate::verify) has its own, which is long enough.
+    WireBuffer,
 }
 
 impl Refusal {
-    /// Its number, 1 to 14.
+    /// Its number, 1 to 15.
     pub fn number(&self) -> u8 {
         match self {
             Refusal::Inputs => 1,
@@ -60,6 +63,7 @@ impl Refusal {
             Refusal::Blocked { .. } => 10,
             Refusal::NetworkLength => 11,
             Refusal::NetworkByte { .. } => 12,
+            Refusal::WireBuffer => 15,
         }
     }
 
@@ -95,6 +99,7 @@ impl Refusal {
             9 => Refusal::Buffer,
             11 => Refusal::NetworkLength,
             12 => Refusal::NetworkByte { product },
+            15 => Refusal::WireBuffer,
             _ => unreachable!("the calls give no other refusal"),
         }
     }
@@ -138,6 +143,7 @@ impl fmt::Display for Refusal {
             Refusal::NetworkByte { product } => {
                 write!(f, "a network byte above 2: product {product}")
             }
+            Refusal::WireBuffer => f.write_str("wire buffer shorter than 2 × n × products"),
         }
     }
 }

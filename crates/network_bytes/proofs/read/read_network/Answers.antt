@@ -1,41 +1,27 @@
-use mathlib.Core.Path.{◌≡◌, ◌∙◌}
-use mathlib.Core.List.{◌++◌}
-use Prim.Native.Nat.{◌+◌, ◌/◌, ◌<◌}
+use mathlib.Core.Path.{◌∙◌}
+use Prim.Native.Nat.{◌/◌, ◌<◌}
 use native.Mathlib.Omega.{arith}
 use lib.ListN.{length, length-set}
 use lib.Pow.{pow_pos}
-use Rattle.std.specs.Iterator.Adapters.{enumerate_count, enumerate_source}
-use Rattle.std.specs.Slice.Iter.{chunks_exact_rest, chunks_exact_size}
+use Rattle.std.specs.Iterator.Adapters.{enumerate_count}
 use Rattle.cube.proofs.Word.{packed_is, packed_clean}
 use Rattle.network_bytes.proofs.Bytes.{byte_le}
-use Rattle.network_bytes.proofs.Chunks.{cut_step, cut_end, chunk_low, chunk_long, chunk_is}
+use Rattle.network_bytes.proofs.Chunks.{chunk_turn, cut_step, cut_end, chunk_low, chunk_long, chunk_is}
 use Rattle.network_bytes.proofs.Reading.{reading_step, reading_end}
 use Rattle.network_bytes.proofs.read.read_network.Goals as goal
 use Rattle.network_bytes.proofs.read.read_network.Goals.{In-Some}
 
--- The chunk that is come to is product j.
-turn : (c : In-Some)
-    → let j = enumerate_count c.loop-j.j-iterator in
-    let d = c.in-Some.product.now in
-    (c.in-Some.j ≡ j) × (enumerate_count c.next.new.self ≡ j + 1)
-    × (chunks_exact_rest (enumerate_source c.loop-j.j-iterator) ≡ d ++ chunks_exact_rest (enumerate_source c.next.new.self))
-    × (length d ≡ chunks_exact_size (enumerate_source c.loop-j.j-iterator))
-turn c =
-    let (t, is, next, fits) = c.in-Some.ensures.steps in
-    let (same, (parts, long), rem) = t in
-    (is, next, parts, long)
-
 low : (c : In-Some) → enumerate_count c.loop-j.j-iterator < length c.args.network.bytes.now / c.args.network.n.count
-low c = let t = turn c in chunk_low c.loop-j.invariant.0 c.args.network.sound.some' _ _ t.2 t.3
+low c = let t = chunk_turn _ _ c.in-Some.ensures.steps in chunk_low c.loop-j.invariant.0 c.args.network.sound.some' _ _ t.2 t.3
 
 inside : (c : In-Some) → c.in-Some.j < length c.loop-j.out
-inside c = omega (arith, (turn c).0, low c, c.loop-j.invariant.2, c.requires)
+inside c = omega (arith, (chunk_turn _ _ c.in-Some.ensures.steps).0, low c, c.loop-j.invariant.2, c.requires)
 
 pub product_of-requires : goal.product_of-requires
 product_of-requires c =
     let k = c.args.network in
     let s = (goal.at.product_of-requires c).In-Some in
-    let t = turn s in
+    let t = chunk_turn _ _ c.in-Some.ensures.steps in
     let v = c.loop-j.invariant.0 in
     let some = k.sound.some' in
     let long = chunk_long v some _ _ t.2 t.3 in
@@ -45,7 +31,7 @@ pub loop-j-preserved : goal.loop-j-preserved
 loop-j-preserved c =
     let k = c.args.network in
     let s = (goal.at.loop-j-preserved c).In-Some in
-    let t = turn s in
+    let t = chunk_turn _ _ c.in-Some.ensures.steps in
     let (v, r, long) = c.loop-j.invariant in
     let some = k.sound.some' in
     let d = rw (chunk_long v some _ _ t.2 t.3) at c.product_of.ensures in (

@@ -1,36 +1,61 @@
-use mathlib.Core.Path.{◌≡◌, ap₂, ◌∙◌}
+use mathlib.Core.Path.{◌≡◌, ap₂, ◌∙◌, subst, subst⁻¹}
 use mathlib.Core.List.{List}
-use Prim.Native.Nat.{ℕ}
-use native.Mathlib.Omega.{arith}
-use Rattle.hazard.specs.Verdict.{products, fault}
+use Rattle.std.specs.Prelude.{None}
+use Prim.Native.Nat.{ℕ, ◌*◌, ◌≤◌}
+use lib.ListN.{length}
+use Rattle.hazard.specs.Search.{first_of}
+use Rattle.hazard.specs.Cover.{Network}
+use Rattle.hazard.specs.Verdict.{products, own_checks, Verdict, fault}
+use Rattle.hazard.specs.Pulse.{run_for}
 use Rattle.cube.specs.declared.inputs.Inputs.{Inputs}
 use Rattle.context.specs.Context.{table_in}
 use Rattle.refusal.proofs.Checks.{passed}
-use Rattle.checks.proofs.HandedOn.{checked-few}
-use Rattle.verifier.proofs.Judging.{checked-fault}
-use Rattle.verifier.proofs.Verifying.{network_judged}
+use Rattle.conditions.specs.Answer.{verdict_of}
+use Rattle.witness.specs.Shows.{Written}
+use Rattle.verifier.proofs.Verifying.{network_judged, run_fits, network_shown, fault-named}
 use Rattle.verifier.proofs.verify.verify_network.Goals as goal
 use Rattle.verifier.proofs.verify.verify_network.Goals.{In_ok-network}
 
+-- The network that was handed on is the network, and its own checks find nothing.
+same : (c : In_ok-network) → products c.in_ok-network.network.n.count c.in_ok-network.network.bytes.now ≡ products c.args.checked.now.problem.planes.n.count c.args.network.now
+same c = let e = c.in_ok-network.ensures.1 in ap₂ (λ (n : Inputs) (bytes : List ℕ). products n.count bytes) e.0 e.1
+
+taken : (c : In_ok-network) → first_of (own_checks c.args.checked.now.problem.planes.n.count c.args.network.now (length c.args.wires.now)) ≡ None
+taken c = passed c.own_checks.ensures.0 c.in_ok-network.was
+
 -- A verdict on the network that was handed on is one on the network.
 judged : (c : In_ok-network) → let p = c.args.checked.now.problem in
-    let f = fault c.in_ok-network.network.n.count (table_in p.planes) p.transitions.list.now (products c.in_ok-network.network.n.count c.in_ok-network.network.bytes.now) in
-    f ≡ fault p.planes.n.count (table_in p.planes) p.transitions.list.now (products p.planes.n.count c.args.network.now)
-judged c =
+    let k = c.in_ok-network.network in
+    (v : Verdict) → v ≡ fault k.n.count (table_in p.planes) p.transitions.list.now (products k.n.count k.bytes.now) → v ≡ fault p.planes.n.count (table_in p.planes) p.transitions.list.now (products p.planes.n.count c.args.network.now)
+judged c v e =
     let p = c.args.checked.now.problem in
-    let e = c.in_ok-network.ensures.1 in
-    ap₂ (λ (n : Inputs) (bytes : List ℕ). fault n.count (table_in p.planes) p.transitions.list.now (products n.count bytes)) e.0 e.1
+    let h = c.in_ok-network.ensures.1 in
+    e ∙ ap₂ (λ (n : Inputs) (bytes : List ℕ). fault n.count (table_in p.planes) p.transitions.list.now (products n.count bytes)) h.0 h.1
 
-pub returns-then-checked-gt64 : goal.returns-then-checked-gt64
-returns-then-checked-gt64 c =
-    let k = c.args.checked.now in
-    let p = k.problem in
-    network_judged p.planes.n.count (table_in p.planes) p.transitions.list.now c.args.network.now k.accepted (passed c.network_checks.ensures.0 c.in_ok-network.was)
-    (c.judge_large.ensures ∙ judged (goal.at.returns-then-checked-gt64 c).In_ok-network)
+pub show-wires-requires-clause-named : goal.show-wires-requires-clause-named
+show-wires-requires-clause-named c =
+    let p = c.args.checked.now.problem in
+    let k = c.in_ok-network.network in
+    fault-named k.n.count (table_in p.planes) p.transitions.list.now (products k.n.count k.bytes.now) (verdict_of c.judge_network-verdict.result) c.judge_network-verdict.ensures
 
-pub returns : goal.returns
-returns c =
-    let k = c.args.checked.now in
-    let p = k.problem in
-    network_judged p.planes.n.count (table_in p.planes) p.transitions.list.now c.args.network.now k.accepted (passed c.network_checks.ensures.0 c.in_ok-network.was)
-    (c.judge.ensures ∙ checked-fault k c.in_ok-network.network.n c.in_ok-network.ensures.1.0 _ _ (checked-few k (omega arith)) ∙ judged (goal.at.returns c).In_ok-network)
+pub show-wires-requires-clause-room : goal.show-wires-requires-clause-room
+show-wires-requires-clause-room c =
+    let p = c.args.checked.now.problem in
+    let s = (goal.at.show-wires-requires-clause-room c).In_ok-network in
+    subst⁻¹ (λ (net : Network). 2 * length (run_for (table_in p.planes) p.transitions.list.now net (verdict_of c.judge_network-verdict.result)) ≤ length c.args.wires.now) (same s)
+    (run_fits p.planes.n.count (table_in p.planes) p.transitions.list.now c.args.network.now (length c.args.wires.now) c.args.checked.now.accepted (taken s) (verdict_of c.judge_network-verdict.result))
+
+pub returns-clause-verified : goal.returns-clause-verified
+returns-clause-verified c =
+    let p = c.args.checked.now.problem in
+    let s = (goal.at.returns-clause-verified c).In_ok-network in
+    network_judged p.planes.n.count (table_in p.planes) p.transitions.list.now c.args.network.now (length c.args.wires.now) c.args.checked.now.accepted (taken s)
+    (judged s _ c.judge_network-verdict.ensures)
+
+pub returns-clause-shown : goal.returns-clause-shown
+returns-clause-shown c =
+    let p = c.args.checked.now.problem in
+    let s = (goal.at.returns-clause-shown c).In_ok-network in
+    network_shown p.planes.n.count (table_in p.planes) p.transitions.list.now c.args.network.now (length c.args.wires.now) c.args.checked.now.accepted (taken s)
+    (judged s _ c.judge_network-verdict.ensures)
+    (subst (λ (net : Network). Written (run_for (table_in p.planes) p.transitions.list.now net (verdict_of c.judge_network-verdict.result)) c.args.wires.now c.show-wires.new.wires c.show-wires.result) (same s) c.show-wires.ensures)

@@ -8,7 +8,7 @@ use Rattle.hazard.specs.Verdict.{products}
 use Rattle.hazard.specs.Pulse.{run_for}
 use Rattle.context.specs.Context.{table_in}
 use Rattle.kinds.proofs.Coded.{few_points}
-use Rattle.conditions.specs.Answer.{judged_of}
+use Rattle.conditions.specs.Answer.{verdict_of}
 use Rattle.witness.specs.Shows.{witness_of, Written}
 use Rattle.witness.specs.declared.pulse.Pulse.{Pulse}
 use Rattle.witness.proofs.run.show.Goals as goal
@@ -19,7 +19,7 @@ witness_for-requires c = let t = c.args.problem.now.transitions in (λ i. few_po
 
 -- The run that was found is the definition's.
 found : (c : After-witness_for) → let p = c.args.problem.now in let k = c.args.network in
-    witness_of c.witness_for.result (products k.n.count k.bytes.now) ≡ run_for (table_in p.planes) p.transitions.list.now (products k.n.count k.bytes.now) (judged_of c.args.v)
+    witness_of c.witness_for.result (products k.n.count k.bytes.now) ≡ run_for (table_in p.planes) p.transitions.list.now (products k.n.count k.bytes.now) (verdict_of c.args.v)
 found c =
     let p = c.args.problem.now in
     let k = c.args.network in

@@ -1,0 +1,7 @@
+-- The definitions' fields of a verdict, for the code's.
+use Rattle.hazard.specs.Verdict as spec
+use Rattle.packing.specs.declared.verdict.Fields.{Fields}
+
+-- The same number and names.
+abbrev pub told_by : Fields → spec.Fields
+told_by m = record { number = m.number; refusal = m.refusal; product = m.product; transition = m.transition; point = m.point }
