@@ -1,5 +1,5 @@
 /* Set pieces K2, K4 and K7 and a function without transitions through both calls, printed as the program quiet prints them; and K5 and K9,
- * two networks that fail, with the run that shows it.
+ * two networks that fail, each with the run that shows it.
  *
  *   cc -I c c/example.c crates/quiet_c/out/libquiet_c.a -o example
  */

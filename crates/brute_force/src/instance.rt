@@ -1,5 +1,4 @@
 // A table and a list of transitions, with what follows from them.
-use crate::product::Product;
 use crate::required::{Required, required_cubes};
 use crate::table::Table;
 use crate::transition::Transition;

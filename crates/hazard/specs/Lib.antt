@@ -16,7 +16,7 @@ pub mod Verdict
 pub mod Minimal
 pub mod Classical
 pub mod Source
-pub mod Piece
-pub mod Pieces
 pub mod Shown
 pub mod Pulse
+pub mod Piece
+pub mod Pieces

@@ -9,7 +9,7 @@ pub record Wire : Type 0 where
   pub product : ℕ
   pub input : ℕ
 
--- That of input i in product j.
+-- The wire of input i in product j.
 abbrev pub wire : ℕ → ℕ → Wire
 wire j i = record { product = j; input = i }
 

@@ -1,5 +1,5 @@
 // Checks 11 and 12, of the network by itself, and 15, of the buffer for its wires.
-ghost use Rattle.std.specs.Prelude.{◌≡◌, not, ◌+◌, ◌/◌, ◌≤◌, length, take, drop, IfOk};
+ghost use Rattle.std.specs.Prelude.{◌≡◌, not, ◌/◌, ◌≤◌, length, IfOk};
 ghost use Rattle.hazard.specs.Limits.{most_products};
 ghost use Rattle.hazard.specs.Search.{first_of};
 ghost use Rattle.hazard.specs.Cube.{is_product};
@@ -43,7 +43,7 @@ pub fn check_digits(n: Inputs, bytes: &[u8]) -> Result<(), Refusal>
     Ok(())
 }
 
-// 11 and 12.
+// Checks 11 and 12.
 pub fn network_checks<'a>(n: Inputs, bytes: &'a [u8]) -> Result<NetworkBytes<'a>, Refusal>
     requires { 1 ≤ n.count }
     ensures { (refused_by result ≡ first_of (network_checks n.count bytes.now)) × IfOk result (λ network. (network.n ≡ n) × (network.bytes.now ≡ bytes.now)) }
@@ -63,7 +63,7 @@ pub fn check_wires(network: NetworkBytes, room: usize) -> Result<(), Refusal>
     Ok(())
 }
 
-// All three.
+// Checks 11, 12 and 15.
 pub fn own_checks<'a>(n: Inputs, bytes: &'a [u8], room: usize) -> Result<NetworkBytes<'a>, Refusal>
     requires { 1 ≤ n.count }
     ensures { (refused_by result ≡ first_of (own_checks n.count bytes.now room)) × IfOk result (λ network. (network.n ≡ n) × (network.bytes.now ≡ bytes.now)) }

@@ -2,6 +2,6 @@
 use Rattle.hazard.specs.Verdict as spec
 use Rattle.packing.specs.declared.verdict.Fields.{Fields}
 
--- The same number and names.
-abbrev pub told_by : Fields → spec.Fields
-told_by m = record { number = m.number; refusal = m.refusal; product = m.product; transition = m.transition; point = m.point }
+-- The same five numbers.
+abbrev pub fields_told : Fields → spec.Fields
+fields_told m = record { number = m.number; refusal = m.refusal; product = m.product; transition = m.transition; point = m.point }

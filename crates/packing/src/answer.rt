@@ -6,7 +6,7 @@ ghost use Rattle.packing.specs.Packed.{unpacked_refusal, unpacked_answer, Refusa
 
 use refusal::refusal::Refusal;
 
-// A refusal.
+// A refusal of the minimiser.
 fn packed_refusal(r: Refusal) -> u64
     requires { RefusalFits (refusal_of r) }
     ensures { unpacked_refusal result ≡ refusal_of r }
@@ -18,7 +18,7 @@ fn packed_refusal(r: Refusal) -> u64
     u64::from(fields.number) + (transition << 8)
 }
 
-// A count, or a refusal.
+// The minimiser's answer: a count, or a refusal.
 pub fn packed_answer(m: Result<usize, Refusal>) -> u64
     requires { AnswerFits (minimised_of m) }
     ensures { unpacked_answer result ≡ minimised_of m }

@@ -4,7 +4,7 @@ ghost use Rattle.hazard.specs.Verdict as spec;
 ghost use Rattle.refusal.specs.Answer.{refusal_of};
 ghost use Rattle.conditions.specs.Answer.{verdict_of};
 ghost use Rattle.witness.specs.Finding.{found_of, counted_of};
-ghost use Rattle.packing.specs.Told.{told_by};
+ghost use Rattle.packing.specs.Told.{fields_told};
 ghost use Rattle.packing.specs.Packed.{unpacked_verdict, unpacked_wires, FindingFits};
 
 use conditions::fault::Verdict;
@@ -23,9 +23,9 @@ struct Fields {
     point: u16,
 }
 
-// With a number, and nothing named.
+// The fields of a verdict that names nothing.
 fn unnamed(number: u8) -> Fields
-    ensures { told_by result ≡ record { number = number; refusal = 0; product = 0; transition = 0; point = 0 } }
+    ensures { fields_told result ≡ record { number = number; refusal = 0; product = 0; transition = 0; point = 0 } }
 {
     Fields {
         number,
@@ -36,9 +36,9 @@ fn unnamed(number: u8) -> Fields
     }
 }
 
-// Of a network that is not refused. A match: each case names fields of its own.
+// The fields of a verdict on a network that is not refused. A match: each case names fields of its own.
 fn fields_of(v: Verdict) -> Fields
-    ensures { told_by result ≡ spec.fields_of (verdict_of v) }
+    ensures { fields_told result ≡ spec.fields_of (verdict_of v) }
 {
     match v {
         Verdict::Passed => unnamed(1),
@@ -63,9 +63,9 @@ fn fields_of(v: Verdict) -> Fields
     }
 }
 
-// Of a refusal.
+// The fields of a refusal.
 fn fields_of_refusal(r: Refusal) -> Fields
-    ensures { told_by result ≡ spec.fields_of (spec.refused (refusal_of r)) }
+    ensures { fields_told result ≡ spec.fields_of (spec.refused (refusal_of r)) }
 {
     let told = r.fields();
     Fields {
@@ -80,7 +80,7 @@ fn fields_of_refusal(r: Refusal) -> Fields
 // The fields and the wires in their places.
 fn packed(m: Fields, wires: usize) -> u64
     requires { (m.transition < 128) × (m.point < 1024) × (wires < 32768) }
-    ensures { (unpacked_verdict result ≡ told_by m) × (unpacked_wires result ≡ wires) }
+    ensures { (unpacked_verdict result ≡ fields_told m) × (unpacked_wires result ≡ wires) }
 {
     let point = u64::from(m.point) + ((wires as u64) << 10);
     let places = u64::from(m.transition) + (point << 7);
@@ -89,7 +89,7 @@ fn packed(m: Fields, wires: usize) -> u64
     u64::from(m.number) + (fields << 8)
 }
 
-// A finding, or a refusal.
+// The verifier's answer: a finding, or a refusal.
 pub fn packed_verdict(v: Result<Finding, Refusal>) -> u64
     requires { FindingFits (spec.fields_of (found_of v)) (counted_of v) }
     ensures { (unpacked_verdict result ≡ spec.fields_of (found_of v)) × (unpacked_wires result ≡ counted_of v) }

@@ -52,7 +52,7 @@ impl fmt::Display for VerdictText {
     }
 }
 
-// The verdict on a network, with the run if one is due. Wires that none asks for are told.
+// The verdict on a network, with the run if one is due. Wires where no run is due stand after WIRES.
 #[derive(Clone, Copy)]
 pub struct ShownText<'a> {
     shown: Shown<'a>,

@@ -1,6 +1,6 @@
 -- The checks, one list after the other, what they leave to be judged, and what is shown of it.
-use mathlib.Core.Path.{◌≡◌, refl, sym, ap, ◌∙◌}
-use mathlib.Core.List.{List, []}
+use mathlib.Core.Path.{◌≡◌, sym, ap, ◌∙◌}
+use mathlib.Core.List.{List}
 use Rattle.std.specs.Prelude.{Option, None, Some}
 use Prim.Native.Nat.{ℕ, ◌*◌, ◌/◌, ◌≤◌}
 use native.Mathlib.Nat.{mul_assoc}
@@ -20,10 +20,6 @@ use Rattle.witness.specs.Shows.{Named, Written}
 -- The verdict that a refusal, or none, leads to.
 abbrev judgement : ℕ → List ℕ → List ℕ → List ℕ → Option Refusal → Verdict
 judgement n f ts bytes o = elim o [ Some r ↦ refused r | None ↦ fault n f ts (products n bytes) ]
-
--- Nothing is written for a refusal.
-pub none_shown : (f ts : List ℕ) (net : Network) (r : Refusal) (before : List ℕ) → Shown f ts net (refused r) before before 0
-none_shown f ts net r before = record { wires = []; evidence = refl; counted = refl; buffer = refl }
 
 module _ (n : ℕ) (f ts bytes : List ℕ) (room : ℕ) where
   pub input-refused : {r : Refusal} → Some r ≡ first_of (input_checks n f ts) → Verified n f ts bytes room (refused r)

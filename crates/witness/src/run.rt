@@ -1,5 +1,5 @@
 // The run that shows a verdict, written.
-ghost use Rattle.std.specs.Prelude.{◌≡◌, ◌*◌, ◌≤◌, length};
+ghost use Rattle.std.specs.Prelude.{◌*◌, ◌≤◌, length};
 ghost use Rattle.hazard.specs.Verdict.{products};
 ghost use Rattle.hazard.specs.Pulse.{run_for};
 ghost use Rattle.context.specs.Context.{table_in};

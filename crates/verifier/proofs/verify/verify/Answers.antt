@@ -1,9 +1,7 @@
 use lib.ListN.{length}
 use Rattle.std.proofs.lemmas.Result.{err_from_is_err_and}
-use Rattle.hazard.specs.Verdict.{products}
 use Rattle.refusal.proofs.Checks.{refused}
-use Rattle.refusal.specs.Answer.{refusal_of}
-use Rattle.verifier.proofs.Verifying.{input-refused, none_shown}
+use Rattle.verifier.proofs.Verifying.{input-refused}
 use Rattle.verifier.proofs.verify.verify.Goals as goal
 
 pub returns-in_err-checked-clause-verified : goal.returns-in_err-checked-clause-verified
@@ -11,9 +9,3 @@ returns-in_err-checked-clause-verified c =
     let a = c.args in
     let p = err_from_is_err_and c.from_residual.result c.from_residual.ensures.1 in
     rw (p.1, p.2) (input-refused a.n a.table.now a.transitions.now a.network.now (length a.wires.now) (refused c.check.ensures.refused c.in_err-checked.was))
-
-pub returns-in_err-checked-clause-shown : goal.returns-in_err-checked-clause-shown
-returns-in_err-checked-clause-shown c =
-    let a = c.args in
-    let p = err_from_is_err_and c.from_residual.result c.from_residual.ensures.1 in
-    rw p.1 (none_shown a.table.now a.transitions.now (products a.n a.network.now) (refusal_of p.0) a.wires.now)
