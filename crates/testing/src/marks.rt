@@ -8,7 +8,9 @@ pub const MARK: u8 = 9;
 pub const WIRE_MARK: u16 = u16::MAX;
 
 // Whether each byte is the mark.
-pub fn is_marked(bytes: &[u8]) -> bool {
+pub fn is_marked(bytes: &[u8]) -> bool
+    ensures { IsTrue result ↔ All (λ x. x ≡ MARK) bytes.now }
+{
     bytes.iter().all(|b| *b == MARK)
 }
 

@@ -29,9 +29,6 @@ module _ (n : ℕ) (f ts bytes : List ℕ) (room : ℕ) where
     own : first_of (verifier_checks n f ts bytes room) ≡ first_of (own_checks n bytes room)
     own = first_of-right (input_checks n f ts) (own_checks n bytes room) ok
 
-    pub network-refused : {r : Refusal} → Some r ≡ first_of (own_checks n bytes room) → Verified n f ts bytes room (refused r)
-    network-refused e = verified n f ts bytes room (ap (judgement n f ts bytes) (e ∙ sym own))
-
     module _ (taken : first_of (own_checks n bytes room) ≡ None) where
       judged : {v : Verdict} → v ≡ fault n f ts (products n bytes) → v ≡ verdict n f ts bytes room
       judged e = e ∙ ap (judgement n f ts bytes) (sym (own ∙ taken))

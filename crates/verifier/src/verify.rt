@@ -60,8 +60,8 @@ fn verify_network(checked: &Checked, network: &[u8], wires: &mut [u16]) -> Resul
     Ok(Finding { verdict, wires })
 }
 
-// Whether the network is hazard-free for the table and the transitions: a refusal, or passed, or the first fault. A run that shows the fault,
-// if it takes one, is written into the buffer, and its wires are counted.
+// Whether the network is hazard-free for the table and the transitions: a refusal, or passed, or the first fault. The run that shows the
+// fault, if one does, is written into the buffer, and its wires are counted.
 pub fn verify(
     n: usize,
     table: &[u8],

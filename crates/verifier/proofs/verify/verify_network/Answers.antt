@@ -45,17 +45,15 @@ show-wires-requires-clause-room c =
     subst⁻¹ (λ (net : Network). 2 * length (run_for (table_in p.planes) p.transitions.list.now net (verdict_of c.judge_network-verdict.result)) ≤ length c.args.wires.now) (same s)
     (run_fits p.planes.n.count (table_in p.planes) p.transitions.list.now c.args.network.now (length c.args.wires.now) c.args.checked.now.accepted (taken s) (verdict_of c.judge_network-verdict.result))
 
-pub returns-clause-verified : goal.returns-clause-verified
-returns-clause-verified c =
+pub returns : goal.returns
+returns c =
     let p = c.args.checked.now.problem in
-    let s = (goal.at.returns-clause-verified c).In_ok-network in
-    network_judged p.planes.n.count (table_in p.planes) p.transitions.list.now c.args.network.now (length c.args.wires.now) c.args.checked.now.accepted (taken s)
-    (judged s _ c.judge_network-verdict.ensures)
-
-pub returns-clause-shown : goal.returns-clause-shown
-returns-clause-shown c =
-    let p = c.args.checked.now.problem in
-    let s = (goal.at.returns-clause-shown c).In_ok-network in
-    network_shown p.planes.n.count (table_in p.planes) p.transitions.list.now c.args.network.now (length c.args.wires.now) c.args.checked.now.accepted (taken s)
-    (judged s _ c.judge_network-verdict.ensures)
-    (subst (λ (net : Network). Written (run_for (table_in p.planes) p.transitions.list.now net (verdict_of c.judge_network-verdict.result)) c.args.wires.now c.show-wires.new.wires c.show-wires.result) (same s) c.show-wires.ensures)
+    let room = length c.args.wires.now in
+    let v = verdict_of c.judge_network-verdict.result in
+    let s = (goal.at.returns c).In_ok-network in
+    let e = judged s v c.judge_network-verdict.ensures in
+    let w = subst (λ (net : Network). Written (run_for (table_in p.planes) p.transitions.list.now net v) c.args.wires.now c.show-wires.new.wires c.show-wires.result) (same s) c.show-wires.ensures in
+    record {
+      verified = network_judged p.planes.n.count (table_in p.planes) p.transitions.list.now c.args.network.now room c.args.checked.now.accepted (taken s) e;
+      shown = network_shown p.planes.n.count (table_in p.planes) p.transitions.list.now c.args.network.now room c.args.checked.now.accepted (taken s) e w;
+    }
