@@ -22,7 +22,6 @@ use cube::inputs::Inputs;
 use cube::mask::Cube;
 use hazard::limits::MOST_PRODUCTS;
 use legality::meeting::first_illegal;
-use points::over::walk_over;
 
 // How a network is judged: passed, or its first fault. `Passed` is a case and not `None`: it is a verdict like the others, with a number of
 // its own.
@@ -56,7 +55,7 @@ fn product_fault(context: &Context, products: &[u64]) -> Verdict
     let mut met = None;
     for (j, w) in products.iter().enumerate() {
         let c = cube_in(*w);
-        if let Some(z) = lowest_zero(&context.off, walk_over(context.n, c)) {
+        if let Some(z) = lowest_zero(&context.off, context.n, c) {
             return Verdict::HoldsZero {
                 product: j as u16,
                 point: z,

@@ -8,7 +8,7 @@ use native.Mathlib.Decide.{ℕ_discrete}
 use native.Mathlib.Omega.{arith}
 use lib.Dec.{eqb}
 use lib.Arith.{bin_ind}
-use lib.Bits.{bit_and, bit_or, bit_xor, and_shr, and_mod, or_shr, or_mod, xor_shr, xor_mod}
+use lib.Bits.{bit_and, bit_or, bit_xor, and_zero_l, and_zero_r, and_shr, and_mod, or_shr, or_mod, xor_shr, xor_mod}
 use lib.Pow.{pow-lt}
 use borrow.Author.Tests.{ne_eqb}
 
@@ -96,3 +96,11 @@ and_again a =
     (λ n ih b. by_digits
     (simp halves (ih (b / 2)))
     (simp lasts (bit_case2 (λ x y. bit_and (bit_and x y) y ≡ bit_and x y) refl refl refl refl n b))) a
+
+-- Bits of a mask changed in a number, under the mask.
+pub xor_within : (b a p : ℕ) → bit_and (bit_xor a (bit_and b p)) b ≡ bit_xor (bit_and a b) (bit_and b p)
+xor_within b =
+    bin_ind (λ (n : ℕ). (a p : ℕ) → bit_and (bit_xor a (bit_and n p)) n ≡ bit_xor (bit_and a n) (bit_and n p)) (λ a p. rw (and_zero_l, and_zero_r, and_zero_r))
+    (λ n ih a p. by_digits
+    (simp halves (ih (a / 2) (p / 2)))
+    (simp lasts (bit_case3 (λ x y z. bit_and (bit_xor x (bit_and y z)) y ≡ bit_xor (bit_and x y) (bit_and y z)) refl refl refl refl refl refl refl refl a n p))) b

@@ -1,16 +1,19 @@
 -- A cube's digits, one by one, as the bytes of a product.
 use mathlib.Core.Path.{◌≡◌, refl, sym, ap, ap₂, ◌∙◌}
+use mathlib.Core.Bool.{Bool, true, false, cond}
 use mathlib.Core.List.{List, ◌∷◌}
 use Prim.Native.Nat.{ℕ, zero, suc, ◌+◌, ◌-◌, ◌/◌, ◌%◌, ◌^◌, ◌≤◌, ◌<◌}
 use native.Mathlib.Nat.{pow-suc, le_of_suc-le-suc, not-suc-le-zero, sub_self}
 use native.Mathlib.Numerals.{add-one}
 use native.Mathlib.Omega.{arith}
+use lib.Dec.{eqb}
 use lib.ListN.{length, get_or, take, drop, drop_of_length-le, set}
 use lib.Seq.{drop-cons, take_all}
 use Rattle.std.proofs.lemmas.List.{take_more, take_more_set}
 use lib.Bits.{bit_and, and_le_r}
 use lib.Pow.{pow_pos, pow_mono}
 use Rattle.hazard.specs.Cube.{bit}
+use Rattle.hazard.proofs.Cube.{Digits, nil, cons}
 use Rattle.hazard.proofs.Point.{bit-zero, bit-suc}
 use Rattle.cube.specs.Mask.{digit, digits_of, Stands}
 use Rattle.cube.specs.declared.mask.Cube.{Cube}
@@ -24,6 +27,18 @@ pub digit_at_lem : (n care value i : ℕ) → i < n → get_or (digits_of n care
 digit_at_lem zero care value i h = absurd (not-suc-le-zero h)
 digit_at_lem (suc n) care value zero h = ap₂ digit (sym (bit-zero care)) (sym (bit-zero value))
 digit_at_lem (suc n) care value (suc i) h = digit_at_lem n (care / 2) (value / 2) i (le_of_suc-le-suc h) ∙ ap₂ digit (sym (bit-suc care i)) (sym (bit-suc value i))
+
+-- Masks always stand for a cube of n inputs.
+digit-small : (care value : ℕ) → digit (care % 2) (value % 2) ≤ 2
+digit-small care value = go (eqb (care % 2) 0)
+  where
+    go : (b : Bool) → cond b 2 (value % 2) ≤ 2
+    go true = omega arith
+    go false = omega arith
+
+pub masks_digits : (n care value : ℕ) → Digits n (digits_of n care value)
+masks_digits zero care value = nil
+masks_digits (suc n) care value = cons (digit-small care value) (masks_digits n (care / 2) (value / 2))
 
 -- One input more, before the others.
 pub stands_cons : (k l b y : ℕ) {m : ℕ} {c : Cube} {ds : List ℕ} → Stands m c ds

@@ -1,5 +1,6 @@
 pub mod Bits
 pub mod Masks
+pub mod Inverting
 pub mod Points
 pub mod Following
 pub mod Digits

@@ -1,4 +1,5 @@
 pub mod Mask
+pub mod Invert
 pub mod Next
 pub mod Entry
 pub mod PointSet

@@ -1,7 +1,8 @@
 // A cube as two masks: its operations, by bit operations and no loop.
 ghost use Rattle.std.specs.Prelude.{◌≡◌, ℕ, ◌≤◌, ◌<◌, ◌^◌, set};
 ghost use Rattle.hazard.specs.Cube.{span, join, supercube, inside};
-ghost use Rattle.cube.specs.Mask.{digit_at, cube_of, Stands};
+ghost use Rattle.cube.specs.Invert.{invert};
+ghost use Rattle.cube.specs.Mask.{digit_at, cube_of, Clean, Stands};
 
 use crate::inputs::Inputs;
 
@@ -77,5 +78,16 @@ pub fn raised(c: Cube, i: usize) -> Cube
     Cube {
         care,
         value: c.value & care,
+    }
+}
+
+// The cube with the literal of input i inverted: the points that raising it adds. With no literal there, the cube itself.
+pub fn inverted(c: Cube, i: usize) -> Cube
+    requires { i < 16 }
+    ensures { (n : ℕ) → Clean n c → Stands n result (invert (cube_of n c) i) }
+{
+    Cube {
+        care: c.care,
+        value: c.value ^ (c.care & (1u16 << i)),
     }
 }

@@ -1,12 +1,14 @@
 // Expansion of a dhf-implicant to a dhf-prime.
-ghost use Rattle.std.specs.Prelude.{ℕ, ◌<◌};
+ghost use Rattle.std.specs.Prelude.{◌≡◌, ℕ, ◌<◌, None};
+ghost use Rattle.hazard.specs.Implicant.{lowest_zero};
 ghost use Rattle.hazard.specs.Expansion as spec;
 ghost use Rattle.cube.specs.Mask.{cube_of, Clean, Stands};
 ghost use Rattle.context.specs.Context.{off_in, privileged_of};
 ghost use Rattle.expand.specs.Answer.{grown_of, LegalClean};
 
-use crate::growth::{Grown, grow};
+use crate::growth::{Grown, grow, grow_on};
 use context::context::Context;
+use context::lowest::lowest_raised;
 use cube::mask::{Cube, raised, supercube_of};
 use cube::point::bit_of;
 
@@ -22,20 +24,26 @@ impl Grown {
     }
 }
 
-// The literal of input i raised, and the cube grown, where there is one and that ends legal.
+// The literal of input i raised, and the cube grown, where there is one and that ends legal. The cube has no zero, so that only the points that
+// raising adds are read.
 fn raise(context: &Context, c: Cube, i: usize) -> Cube
     requires clean { Clean context.now.n.count c × (i < context.now.n.count) }
+    requires zeros { lowest_zero context.now.n.count (off_in context.now) (cube_of context.now.n.count c) ≡ None }
     ensures { Stands context.now.n.count result (spec.raise context.now.n.count (off_in context.now) (privileged_of context.now) (cube_of context.now.n.count c) i) }
 {
     if bit_of(c.care, i) == 0 {
         return c;
     }
-    grow(context, raised(c, i)).cube_or(c)
+    if lowest_raised(&context.off, context.n, c, i).is_some() {
+        return c;
+    }
+    grow_on(context, raised(c, i)).cube_or(c)
 }
 
-// The cube with its literals raised, one after the other.
+// A cube without a zero, with its literals raised, one after the other.
 pub fn expanded(context: &Context, c: Cube) -> Cube
     requires clean { Clean context.now.n.count c }
+    requires zeros { lowest_zero context.now.n.count (off_in context.now) (cube_of context.now.n.count c) ≡ None }
     ensures { Stands context.now.n.count result (spec.expand context.now.n.count (off_in context.now) (privileged_of context.now) (cube_of context.now.n.count c)) }
 {
     let mut p = c;

@@ -3,8 +3,8 @@ use mathlib.Core.Path.{◌≡◌, refl, sym, subst⁻¹}
 use mathlib.Core.Bool.{true, false, cond}
 use mathlib.Core.List.Memᴰ
 use mathlib.Core.List.{List, [], ◌∷◌, map}
-use Rattle.std.specs.Prelude.{None}
-use Prim.Native.Nat.{ℕ}
+use Rattle.std.specs.Prelude.{Option, None, Some}
+use Prim.Native.Nat.{ℕ, zero, suc}
 use native.Mathlib.Omega.{arith}
 use lib.Dec.{T, leb}
 use lib.ListN.{length}
@@ -12,8 +12,9 @@ use Rattle.hazard.specs.Search.{those, first_of}
 use Rattle.hazard.specs.Cube.{has, span, distance}
 use Rattle.hazard.specs.Transition.{off}
 use Rattle.hazard.specs.Sets.{Required, required, privileged}
-use Rattle.hazard.specs.Implicant.{dhf_implicant, StrictlyInside}
+use Rattle.hazard.specs.Implicant.{lowest_zero, dhf_implicant, StrictlyInside}
 use Rattle.hazard.specs.Growth.{Legal, Blocked, Grown, grow}
+use Rattle.hazard.specs.Added.{AgreeOnAdded, lowest_added}
 use Rattle.hazard.specs.Cover.{Network, WellFormed}
 use Rattle.hazard.specs.Sequence.{ascending}
 use Rattle.hazard.specs.HazardFree.{HazardFree}
@@ -120,6 +121,27 @@ table_b = 2 ∷ 2 ∷ 2 ∷ 0 ∷ 0 ∷ 1 ∷ 1 ∷ 1 ∷ 0 ∷ 2 ∷ 2 ∷ 1 �
 
 pub blocked_after_two : grow 4 (off table_b) (privileged 4 table_b (13 ∷ 14 ∷ 12 ∷ 7 ∷ 15 ∷ 11 ∷ [])) (1 ∷ 1 ∷ 2 ∷ 1 ∷ []) ≡ Blocked 3 2
 blocked_after_two = refl
+
+-- Raising the literal of input 0 adds the points 1 and 3. Two tables that differ at point 0 alone agree there, and both have 3 for the lowest added
+-- zero; so has the whole cube of the first, whose old points have no zero, while the second's has 0.
+abbrev table_d : List ℕ
+table_d = 1 ∷ 1 ∷ 1 ∷ 0 ∷ []
+
+abbrev table_e : List ℕ
+table_e = 0 ∷ 1 ∷ 1 ∷ 0 ∷ []
+
+pub old_points_apart : AgreeOnAdded 2 (off table_d) (off table_e) (0 ∷ 2 ∷ []) (2 ∷ 2 ∷ [])
+old_points_apart zero l t = absurd t
+old_points_apart (suc zero) l t = refl
+old_points_apart (suc (suc zero)) l t = absurd t
+old_points_apart (suc (suc (suc zero))) l t = refl
+old_points_apart (suc (suc (suc (suc x)))) l t = absurd (omega arith)
+
+abbrev zeros_of : List ℕ → Option ℕ × Option ℕ × Option ℕ
+zeros_of f = (lowest_zero 2 (off f) (0 ∷ 2 ∷ []), lowest_added 2 (off f) (0 ∷ 2 ∷ []) (2 ∷ 2 ∷ []), lowest_zero 2 (off f) (2 ∷ 2 ∷ []))
+
+pub added_zero : (zeros_of table_d ≡ (None, Some 3, Some 3)) × (zeros_of table_e ≡ (Some 0, Some 3, Some 0))
+added_zero = (refl, refl)
 
 -- A fall of five inputs with ten required cubes: the function is 1 where at most two inputs have moved.
 abbrev layers5 : List ℕ

@@ -7,16 +7,27 @@ use native.Mathlib.Omega.{arith}
 use native.Mathlib.Decide.{ℕ_discrete}
 use lib.Dec.{eqb, eqb→eq}
 use lib.ListN.{get_or, set}
+use Rattle.std.specs.Prelude.{None}
 use Rattle.hazard.specs.Cube.{Cube, supercube}
 use Rattle.hazard.specs.Sets.{Privileged}
+use Rattle.hazard.specs.Implicant.{lowest_zero}
 use Rattle.hazard.specs.Growth.{Growth, Legal, Blocked, grow}
 use Rattle.hazard.specs.Expansion.{grown_or, raise, expand_from, expand, absorb}
 use Rattle.hazard.proofs.Test.{so}
 use Rattle.hazard.proofs.Cube.{Digits, Inside, supercube-digits, inside-left, inside_refl, inside_trans, inside_back, set-digits, inside-set, set-inside, free-inside, free-set}
 use Rattle.hazard.proofs.Implicant.{Dhf, Wide, Prime}
-use Rattle.hazard.proofs.Growth.{Ends, legal, blocked, grow_ends, blocked_none}
+use Rattle.hazard.proofs.Growth.{Grows, Ends, legal, blocked, legal_clean, grow-runs, grow_ends, blocked_none}
 
 module _ (n : ℕ) (off : ℕ → Bool) (vs : List Privileged) (wide : Wide n vs) where
+  -- Raising a literal of a cube without a zero leaves one without a zero.
+  pub raise_clean : (p : Cube) (i : ℕ) → Digits n p → lowest_zero n off p ≡ None → lowest_zero n off (raise n off vs p i) ≡ None
+  raise_clean p i w e = go (eqb (get_or p i 0) 2) (grow n off vs (set p i 2)) (grow-runs n off vs wide (set-digits i w))
+    where
+      go : (b : Bool) (g : Growth) → Grows n off vs (set p i 2) 0 g → lowest_zero n off (cond b p (grown_or p g)) ≡ None
+      go true g r = e
+      go false (Legal d t) r = legal_clean n off vs r
+      go false (Blocked z t) r = e
+
   -- p' is a dhf-implicant around p; and if a dhf-implicant around p' frees one of the m inputs from i on, so does p'.
   pub record Raised (i m : ℕ) (p p' : Cube) : Type 0 where
     pub dhf : Dhf n off vs p'

@@ -43,6 +43,11 @@ module _ (n : ℕ) (off : ℕ → Bool) (vs : List Privileged) where
   blocked_later q (stop e) = let y : ◌≡◌ {A = ℕ} 0 1 = cc in absurd (omega arith)
   blocked_later q (step e d r) = grows_more r
 
+  -- A cube that growth ends legal at has no zero.
+  pub legal_clean : {c d : Cube} {s t : ℕ} → Grows c s (Legal d t) → lowest_zero n off d ≡ None
+  legal_clean (done e k) = e
+  legal_clean (step e k r) = legal_clean r
+
   -- d lies inside every closed cube around c.
   abbrev pub Least : Cube → Cube → Type 0
   Least c d = (q : Cube) → Closed vs q → Inside c q → Inside d q

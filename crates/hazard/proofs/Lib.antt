@@ -20,6 +20,7 @@ pub mod Reading
 -- Dhf-implicants, growth, expansion, choice.
 pub mod Implicant
 pub mod Growth
+pub mod Added
 pub mod Expansion
 pub mod Network
 pub mod Sequence

@@ -6,6 +6,7 @@ pub mod Transition
 pub mod Sets
 pub mod Implicant
 pub mod Growth
+pub mod Added
 pub mod Expansion
 pub mod Cover
 pub mod Sequence

@@ -1,21 +1,26 @@
 -- The points that a walk comes to, and its steps.
 use mathlib.Core.Path.{◌≡◌, refl, sym, ap, ap₂, ◌∙◌}
 use mathlib.Core.Bool.{Bool, true, false, not, cond, ◌&&◌}
+use mathlib.Core.List.{List}
 use Prim.Native.Nat.{ℕ, ◌+◌, ◌-◌, ◌*◌, ◌/◌, ◌%◌, ◌^◌, ◌≤◌, ◌<◌}
 use native.Mathlib.Nat.{mod-lt, mod-eq_of_lt, div-eq_of_lt, div_self, lt_of_le_of_lt, mul-le-mul_left, mul-one, zero-mul, zero-add}
 use native.Mathlib.Decide.{dec_lt}
 use native.Mathlib.Omega.{arith}
 use lib.Bits.{bit_and, bit_xor, and_block, and_mask, and_mod, and_le_r, and_zero_l, xor_shr, xor_zero_r}
 use lib.Dec.{T, eqb, ltb}
+use lib.ListN.{set}
 use lib.Pow.{pow_pos, pow_mono, split, high_ones, shr_mod, shr_mono}
 use borrow.Author.Tests.{lt-ltb, le-ltb, ne_eqb}
 use Rattle.hazard.specs.Cube.{bit, has}
+use Rattle.hazard.specs.Added.{added}
 use Rattle.hazard.proofs.Test.{is, isnt}
 use Rattle.cube.specs.declared.mask.Cube.{Cube}
-use Rattle.cube.specs.Mask.{cube_of, Clean}
+use Rattle.cube.specs.Invert.{invert}
+use Rattle.cube.specs.Mask.{cube_of, Clean, Stands}
 use Rattle.cube.specs.WordMask.{differs, Marks, Words}
 use Rattle.cube.specs.Next.{Next}
 use Rattle.cube.proofs.Bits.{zero_both}
+use Rattle.cube.proofs.Inverting.{inverted_adds}
 use Rattle.cube.proofs.Masks.{has_masks}
 use Rattle.cube.proofs.ByWords.{word_first, word_below}
 use Rattle.cube.proofs.WordMask.{no_bit, less_test}
@@ -107,8 +112,12 @@ module _ {n : ℕ} (k : Walk) {c : Cube} (s : Clean n c) {d : Cube} (t : Ten n c
   pub over-is : k.gone ≡ 0 → Walks n k (has (cube_of n c))
   over-is g = record { is = λ x l. rw g (ap₂ ◌&&◌ (in_words_lem s t w m x l) refl) ∙ none_out (has (cube_of n c) x && ltb x (2 ^ n)) (eqb (differs k.old (x / 64)) 0) (x % 64) }
 
-  pub added_is : {o : Cube} → Clean n o → {p : Cube} → Ten n o p → Words p k.old → Marks p 6 k.gone → Walks n k (λ x. has (cube_of n c) x && not (has (cube_of n o) x))
+  pub added_is : {o : Cube} → Clean n o → {p : Cube} → Ten n o p → Words p k.old → Marks p 6 k.gone → Walks n k (added (cube_of n o) (cube_of n c))
   added_is {o} s' t' w' m' = record { is = λ x l. ap₂ (λ (a b : Bool). a && not b) (in_words_lem s t w m x l) (in_words_lem s' t' w' m' x l) ∙ but_within (has (cube_of n c) x) (has (cube_of n o) x) (ltb x (2 ^ n)) }
+
+-- The points of the cube with a literal inverted are those that raising the literal adds.
+pub raised_is : {n : ℕ} (c : Cube) {r : Cube} {k : Walk} (i : ℕ) → i < n → bit c.care i ≡ 1 → Stands n r (invert (cube_of n c) i) → Walks n k (has (cube_of n r)) → Walks n k (added (cube_of n c) (set (cube_of n c) i 2))
+raised_is {n} c i l e s w = record { is = λ x h. w.is x h ∙ ap (λ (b : Bool). b && ltb x (2 ^ n)) (ap (λ (d : List ℕ). has d x) s.is ∙ inverted_adds n c.care c.value i x l e) }
 
 -- The bits of a word that has points of the cube.
 module _ (k : Walk) (w : ℕ) where

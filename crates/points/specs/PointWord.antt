@@ -1,8 +1,7 @@
 -- One word of a set of points, and sixteen words as a set of points.
-use Rattle.std.specs.Prelude.{◌≡◌, Bool, false, ◌&&◌, List, ℕ, ◌*◌, ◌/◌, ◌%◌, ◌^◌, ◌≤◌, ◌<◌, eqb, length}
+use Rattle.std.specs.Prelude.{◌≡◌, Bool, false, ◌&&◌, List, ℕ, ◌*◌, ◌/◌, ◌%◌, ◌^◌, ◌≤◌, ◌<◌, eqb}
 use Rattle.hazard.specs.Search.{those}
 use Rattle.hazard.specs.Cube.{bit}
-use Rattle.cube.specs.PointSet.{in_set}
 use Rattle.points.specs.declared.word.Points.{Points}
 
 -- The bits of r are the points of word w that pass the test.
@@ -25,8 +24,3 @@ points_left s = points_in s.word s.bits.left
 -- They are all below size.
 pub record Below (size w r : ℕ) : Type 0 where
   pub none : (x : ℕ) → x / 64 ≡ w → size ≤ x → eqb (bit r (x % 64)) 1 ≡ false
-
--- The words hold points of n inputs, and no others.
-pub record PointsOf (n : ℕ) (words : List ℕ) : Type 0 where
-  pub long : length words ≡ 16
-  pub none : (x : ℕ) → 2 ^ n ≤ x → in_set words x ≡ false

@@ -14,12 +14,16 @@ use cube::inputs::Inputs;
 use cube::mask::Cube;
 
 impl PointSet {
-    // The lowest point of the set that the walk comes to. Each word gives its 64 points at once. Other searches over a walk read other words of
-    // a step; one function for all, with a closure that reads them, would have a contract longer than this loop.
+    // The lowest point of the set that the walk comes to. Each word gives its 64 points at once; one that has no point of the walk, because all
+    // are left out, is not read. Other searches over a walk read other words of a step; one function for all, with a closure that reads them,
+    // would have a contract longer than this loop.
     pub fn lowest_on(&self, k: Walk) -> Option<u16>
         ensures { result ≡ lowest_on k (in_set self.now.words) }
     {
         for step in steps_of(k) {
+            if step.mask == 0 {
+                continue;
+            }
             let common = self.points_at(step);
             if common != 0 {
                 return Some(lowest_point(step.word, common));

@@ -1,12 +1,13 @@
 // The walks over the points of a cube.
-ghost use Rattle.std.specs.Prelude.{not, ◌&&◌};
-ghost use Rattle.hazard.specs.Cube.{has};
+ghost use Rattle.std.specs.Prelude.{◌≡◌, ◌<◌, set};
+ghost use Rattle.hazard.specs.Cube.{bit, has};
+ghost use Rattle.hazard.specs.Added.{added};
 ghost use Rattle.cube.specs.Mask.{cube_of, Clean};
 ghost use Rattle.points.specs.Walk.{Ten, Walks};
 
 use crate::walk::Walk;
 use cube::inputs::Inputs;
-use cube::mask::Cube;
+use cube::mask::{Cube, inverted};
 use cube::word_mask::{low_mask, word_cube};
 
 // A cube of n inputs as one of ten: the other inputs are 0.
@@ -34,17 +35,26 @@ pub fn walk_over(n: Inputs, c: Cube) -> Walk
     }
 }
 
-// The points of a cube that are not in the old one.
-pub fn walk_added(n: Inputs, c: Cube, old: Cube) -> Walk
-    requires { Clean n.count c × Clean n.count old }
-    ensures { Walks n.count result (λ x. has (cube_of n.count c) x && not (has (cube_of n.count old) x)) }
+// The points of the new cube that are not in the old one.
+pub fn walk_added(n: Inputs, old: Cube, new: Cube) -> Walk
+    requires { Clean n.count old × Clean n.count new }
+    ensures { Walks n.count result (added (cube_of n.count old) (cube_of n.count new)) }
 {
-    let d = in_ten(n, c);
-    let e = in_ten(n, old);
+    let d = in_ten(n, old);
+    let e = in_ten(n, new);
     Walk {
-        words: word_cube(d),
-        mask: low_mask(d),
-        old: word_cube(e),
-        gone: low_mask(e),
+        words: word_cube(e),
+        mask: low_mask(e),
+        old: word_cube(d),
+        gone: low_mask(d),
     }
+}
+
+// The points that raising the literal of input i adds: a cube too, so that no bit is to be left out, and there are half as many words where the
+// input chooses the word.
+pub fn walk_raised(n: Inputs, c: Cube, i: usize) -> Walk
+    requires { Clean n.count c × (i < n.count) × (bit c.care i ≡ 1) }
+    ensures { Walks n.count result (added (cube_of n.count c) (set (cube_of n.count c) i 2)) }
+{
+    walk_over(n, inverted(c, i))
 }

@@ -23,9 +23,10 @@ use Rattle.cube.proofs.Left.{Left, left-start, left_end, check_hit, check_miss}
 use Rattle.context.specs.declared.context.Context.{Context}
 use Rattle.context.specs.Context.{off_in}
 use Rattle.cube.proofs.Networks.{product_in}
+use Rattle.cube.proofs.Digits.{masks_digits}
 use Rattle.choice.proofs.Choosing.{Choosing, choosing_end}
 use Rattle.selection.specs.Choose.{blocking_of, PrimeWord, Chosen}
-use Rattle.selection.proofs.Products.{vs, wide, masks_digits}
+use Rattle.selection.proofs.Products.{vs, wide}
 
 module _ (context : Context) where
   abbrev n : ℕ

@@ -1,47 +1,31 @@
 -- A product on its way to be chosen: a dhf-implicant around its required cube at each turn.
 use mathlib.Core.Path.{◌≡◌, refl, sym, ap, ◌∙◌, subst}
-use mathlib.Core.Bool.{Bool, true, false, cond}
-use mathlib.Core.List.Memᴰ
-use mathlib.Core.List.{List, map}
-use Prim.Native.Nat.{ℕ, zero, suc, ◌/◌, ◌%◌, ◌≤◌}
-use native.Mathlib.Omega.{arith}
-use lib.Dec.{T, eqb}
+use mathlib.Core.List.{List}
+use Prim.Native.Nat.{ℕ}
+use lib.Dec.{T}
 use lib.Pow.{pow_pos}
 use Rattle.hazard.specs.Cube.{Cube, inside}
 use Rattle.hazard.specs.Sets.{Privileged}
 use Rattle.hazard.specs.Implicant.{dhf_implicant}
 use Rattle.hazard.specs.Growth.{Legal, grow}
 use Rattle.hazard.specs.Expansion.{expand, absorb}
-use Rattle.hazard.proofs.Cube.{Digits, nil, cons, Inside, →inside, inside→, inside_refl, inside_trans}
+use Rattle.hazard.proofs.Cube.{Digits, Inside, →inside, inside→, inside_refl, inside_trans}
 use Rattle.hazard.proofs.Implicant.{Dhf, Wide, dhf-is, prime-is}
 use Rattle.hazard.proofs.Growth.{Ends, legal, grow_ends}
 use Rattle.hazard.proofs.Expansion.{absorb-is, expand-prime, expand-around}
 use Rattle.cube.specs.declared.mask.Cube as masks
-use Rattle.cube.specs.Mask.{digit, digits_of, cube_of, Clean, Stands}
-use Rattle.cube.specs.Entry.{privileged_in, Packed, cube_in}
+use Rattle.cube.specs.Mask.{cube_of, Clean, Stands}
+use Rattle.cube.specs.Entry.{Packed, cube_in}
+use Rattle.cube.proofs.Digits.{masks_digits}
 use Rattle.cube.proofs.Word.{packed_is, packed_clean}
 use Rattle.context.specs.declared.context.Context.{Context}
-use Rattle.context.specs.Context.{off_in, privileged_words, privileged_of}
+use Rattle.context.specs.Context.{off_in, privileged_of}
+use Rattle.context.proofs.Wide.{context_wide}
 use Rattle.expand.specs.declared.growth.Grown as code
 use Rattle.expand.specs.declared.growth.Grown.TheVariants as variants
 use Rattle.expand.specs.Answer.{grown_of, LegalClean, Grows}
 use Rattle.selection.specs.Product.{Over, PrimeOver}
 use Rattle.selection.specs.Choose.{PrimeWord}
-
--- Masks always stand for a cube of n inputs.
-digit-small : (care value : ℕ) → digit (care % 2) (value % 2) ≤ 2
-digit-small care value = go (eqb (care % 2) 0)
-  where
-    go : (b : Bool) → cond b 2 (value % 2) ≤ 2
-    go true = omega arith
-    go false = omega arith
-
-pub masks_digits : (n care value : ℕ) → Digits n (digits_of n care value)
-masks_digits zero care value = nil
-masks_digits (suc n) care value = cons (digit-small care value) (masks_digits n (care / 2) (value / 2))
-
-pub words_wide : (n : ℕ) (ws : List ℕ) → Wide n (map (privileged_in n) ws)
-words_wide n ws v m = let (w, u, e) = Memᴰ.of_map (privileged_in n) ws m in subst (λ (x : Privileged). Digits n x.cube) e (masks_digits n _ _)
 
 module _ (context : Context) where
   abbrev n : ℕ
@@ -51,7 +35,7 @@ module _ (context : Context) where
   vs = privileged_of context
 
   pub wide : Wide n vs
-  wide = words_wide n (privileged_words context)
+  wide = context_wide context
 
   -- The test and its meaning, of masks.
   dhf→ : (c : masks.Cube) → T (dhf_implicant n (off_in context) vs (cube_of n c)) → Dhf n (off_in context) vs (cube_of n c)

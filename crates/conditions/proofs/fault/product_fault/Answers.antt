@@ -1,4 +1,4 @@
-use mathlib.Core.Path.{◌≡◌, refl, sym, ap, ◌∙◌}
+use mathlib.Core.Path.{◌≡◌, sym, ap, ◌∙◌}
 use native.Mathlib.Omega.{arith}
 use lib.ListN.{get_or, length-map}
 use Rattle.hazard.specs.Implicant.{lowest_zero}
@@ -6,7 +6,6 @@ use Rattle.hazard.specs.Cover.{product_at}
 use Rattle.cube.specs.Mask.{cube_of, Stands}
 use Rattle.cube.specs.Entry.{cube_in, network_in}
 use Rattle.cube.proofs.Word.{stands_in}
-use Rattle.points.proofs.Agree.{lowest_agrees}
 use Rattle.context.specs.Context.{off_in}
 use Rattle.conditions.specs.Look.{met_in}
 use Rattle.conditions.proofs.Judging.{judging_hit, judging_miss}
@@ -23,7 +22,7 @@ look_is c = product_read c.args.context.now.n.count c.args.products.now c.loop-j
 
 zero_is : (c : After-lowest_zero) → let a = c.args in cube_of a.context.now.n.count c.cube_in-c.result ≡ product_at (network_in a.context.now.n.count a.products.now) c.loop-j.j → c.lowest_zero.result ≡ lowest_zero a.context.now.n.count (off_in a.context.now) (product_at (network_in a.context.now.n.count a.products.now) c.loop-j.j)
 zero_is c e =
-    c.lowest_zero.ensures ∙ lowest_agrees c.walk_over.ensures c.args.context.now.n.few (λ x l. refl) ∙ ap (lowest_zero c.args.context.now.n.count (off_in c.args.context.now)) e
+    c.lowest_zero.ensures ∙ ap (lowest_zero c.args.context.now.n.count (off_in c.args.context.now)) e
 
 pub returns-in-Some : goal.returns-in-Some
 returns-in-Some c =

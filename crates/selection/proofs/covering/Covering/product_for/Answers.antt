@@ -3,8 +3,9 @@ use lib.ListN.{get_or}
 use Rattle.hazard.specs.Cube.{Cube}
 use Rattle.cube.specs.Entry.{cube_in}
 use Rattle.cube.proofs.Word.{stands_in}
+use Rattle.cube.proofs.Digits.{masks_digits}
 use Rattle.expand.specs.Answer.{Grows}
-use Rattle.selection.proofs.Products.{masks_digits, stage_legal, stage_prime}
+use Rattle.selection.proofs.Products.{stage_legal, stage_prime}
 use Rattle.selection.proofs.covering.Covering.product_for.Goals as goal
 use Rattle.selection.proofs.covering.Covering.product_for.Goals.{After-grow-grown}
 
