@@ -1,8 +1,8 @@
 // A table and a list of transitions, with what follows from them.
+use crate::named::Named;
 use crate::required::{Required, required_cubes};
 use crate::table::Table;
 use crate::transition::Transition;
-use refusal::refusal::Refusal;
 use std::alloc::{AllocError, Global};
 use testing::calls::Problem;
 
@@ -62,7 +62,7 @@ impl Instance {
     }
 
     // Check 6 or 7.
-    pub(crate) fn refusal(&self) -> Option<Refusal> {
+    pub(crate) fn refusal(&self) -> Option<Named> {
         self.table.refusal(&self.transitions)
     }
 

@@ -1,8 +1,8 @@
 // The minimiser against the counterpart.
 use crate::counts::{add, expect};
+use crate::named::{BLOCKED, DONT_CARE, FUNCTION_HAZARD, Named};
 use crate::network::Network;
 use crate::trial::Trial;
-use refusal::refusal::Refusal;
 use std::alloc::AllocError;
 use testing::calls::Written;
 use testing::marks::{MARK, is_marked};
@@ -77,7 +77,7 @@ impl Trial {
 
     // A cube blocks: no set of products is hazard-free, even if nothing is asked at the 1s that no transition visits, and the fields name
     // the first that blocks.
-    fn none(&mut self, r: Refusal) -> Result<(), AllocError> {
+    fn none(&mut self, r: Named) -> Result<(), AllocError> {
         add(&mut self.counts.none);
         self.accepted();
         let same = self.instance.first_blocked() == Some(r);
@@ -88,23 +88,23 @@ impl Trial {
     }
 
     // A refusal by check 6 or 7, as the counterpart has it, and by both calls.
-    fn declined(&mut self, r: Refusal) {
+    fn declined(&mut self, r: Named) {
         let own = self.instance.refusal();
         expect(&mut self.counts.disagreements.acceptance, own == Some(r));
         self.declines(own);
     }
 
     // A refusal, after which the buffer is as it was.
-    fn without_network(&mut self, r: Refusal, cover: &[u8]) -> Result<Answer, AllocError> {
+    fn without_network(&mut self, r: Named, cover: &[u8]) -> Result<Answer, AllocError> {
         expect(&mut self.counts.disagreements.buffer, is_marked(cover));
-        match r {
-            Refusal::Blocked { steps, .. } => {
-                self.add_steps(steps);
+        match r.number {
+            BLOCKED => {
+                self.add_steps(r.steps);
                 self.none(r)?;
                 return Ok(Answer::None);
             }
-            Refusal::DontCare { .. } => add(&mut self.counts.dont_care),
-            Refusal::FunctionHazard { .. } => add(&mut self.counts.function_hazard),
+            DONT_CARE => add(&mut self.counts.dont_care),
+            FUNCTION_HAZARD => add(&mut self.counts.function_hazard),
             _ => {}
         }
         self.declined(r);
@@ -117,7 +117,7 @@ impl Trial {
         let answer = self.instance.problem().minimised(&mut cover);
         match answer {
             Ok(written) => Ok(Answer::Made(self.made(written))),
-            Err(r) => self.without_network(r, &cover),
+            Err(r) => self.without_network(Named::from(r), &cover),
         }
     }
 }

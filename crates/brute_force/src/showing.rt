@@ -1,11 +1,11 @@
 // What shows a fault: a run that is not allowed, or that table and network differ at rest.
 use crate::counts::{add, expect};
 use crate::instance::Instance;
+use crate::named::{HOLDS_ZERO, INTERSECTS, Named, UNCOVERED};
 use crate::network::Network;
 use crate::set::has;
 use crate::transition::Transition;
 use crate::trial::Trial;
-use conditions::fault::Verdict;
 use testing::calls::Shown;
 use testing::marks::are_wires_marked;
 use testing::wires::Wires;
@@ -27,15 +27,16 @@ impl Instance {
     }
 
     // Nothing shows that a network passes.
-    fn due(&self, v: Verdict) -> Option<Due> {
-        match v {
-            Verdict::Passed => None,
-            Verdict::HoldsZero { point, .. } => Some(Due::One { zero: point }),
-            Verdict::Intersects { transition, .. } => self.transition(transition).map(Due::Run),
-            Verdict::Uncovered { transition, label } => match self.transition(transition) {
+    fn due(&self, v: Named) -> Option<Due> {
+        let transition = self.transition(v.transition);
+        match v.number {
+            HOLDS_ZERO => Some(Due::One { zero: v.point }),
+            INTERSECTS => transition.map(Due::Run),
+            UNCOVERED => match transition {
                 Some(t) if self.is_one_to_one(t) => Some(Due::Run(t)),
-                _ => Some(Due::Zero { one: label }),
+                _ => Some(Due::Zero { one: v.point }),
             },
+            _ => None,
         }
     }
 }
@@ -80,8 +81,8 @@ impl Trial {
     }
 
     // What shows the fault, no wire where it is no run, and the rest of the buffer as it was.
-    pub(crate) fn expect_shown(&mut self, net: Network, shown: Shown<'_>) {
-        let due = self.instance.due(shown.verdict);
+    pub(crate) fn expect_shown(&mut self, net: Network, v: Named, shown: Shown<'_>) {
+        let due = self.instance.due(v);
         match due {
             Some(Due::Run(t)) => self.expect_run(net, t, shown),
             Some(Due::One { zero }) => self.expect_one(net, zero),

@@ -1,10 +1,10 @@
 // A table, and what it says of transitions, straight from the words.
 ghost use Rattle.std.specs.Prelude.{◌≤◌};
 
+use crate::named::{DONT_CARE, FUNCTION_HAZARD, Named};
 use crate::product::Product;
 use crate::set::{bit, has};
 use crate::transition::Transition;
-use refusal::refusal::Refusal;
 use std::alloc::{AllocError, Global};
 
 #[derive(Clone, Copy)]
@@ -105,13 +105,23 @@ impl Table {
     }
 
     // Check 6 for all transitions, then check 7.
-    pub(crate) fn refusal(&self, transitions: &[Transition]) -> Option<Refusal> {
+    pub(crate) fn refusal(&self, transitions: &[Transition]) -> Option<Named> {
         let undefined = first_failing(transitions, |_, x| !has(self.zeros | self.ones, x));
         if let Some((transition, point)) = undefined {
-            return Some(Refusal::DontCare { transition, point });
+            return Some(Named {
+                number: DONT_CARE,
+                transition,
+                point,
+                ..Named::default()
+            });
         }
         let (transition, point) = first_failing(transitions, |t, x| self.breaks(t, x))?;
-        Some(Refusal::FunctionHazard { transition, point })
+        Some(Named {
+            number: FUNCTION_HAZARD,
+            transition,
+            point,
+            ..Named::default()
+        })
     }
 }
 

@@ -9,7 +9,7 @@ use kinds::problem::Problem;
 
 // A problem that the input rules let through; its context, and how many required cubes it has, with as many of them as there is room for: an
 // array and a count, since no heap is used.
-#[derive(Drop)]
+#[derive(Clone, Copy)]
 pub struct Checked<'a> {
     pub problem: Problem<'a>,
     pub context: Context,

@@ -14,15 +14,18 @@ pub struct Planes {
     ghost are: { Apart n.count zeros.words ones.words },
 }
 
-// The points with the value v, as bits. The last point is taken first, and up to 64 points fill the word.
-fn plane_word(points: &[u8], v: u8) -> u64
+// The points with the value 0, and those with the value 1, as bits: one pass gives both words. The last point is taken first, and up to 64
+// points fill a word.
+fn plane_words(points: &[u8]) -> (u64, u64)
     requires { length points.now ≤ 64 }
-    ensures { result ≡ plane_word v points.now }
+    ensures { (result.0 ≡ plane_word 0 points.now) × (result.1 ≡ plane_word 1 points.now) }
 {
-    points
-        .iter()
-        .rev()
-        .fold(0, |word, y| (word << 1) | (*y == v) as u64)
+    points.iter().rev().fold((0, 0), |(zeros, ones), y| {
+        (
+            (zeros << 1) | (*y == 0) as u64,
+            (ones << 1) | (*y == 1) as u64,
+        )
+    })
 }
 
 impl Planes {
@@ -34,8 +37,9 @@ impl Planes {
         let mut zeros = PointSet::empty();
         let mut ones = PointSet::empty();
         for (w, points) in table.chunks(64).enumerate() {
-            zeros.words[w] = plane_word(points, 0);
-            ones.words[w] = plane_word(points, 1);
+            let (zero_word, one_word) = plane_words(points);
+            zeros.words[w] = zero_word;
+            ones.words[w] = one_word;
         }
         Planes { n, zeros, ones }
     }

@@ -3,7 +3,6 @@ use mathlib.Core.Path.{◌≡◌, refl, sym, ap, ◌∙◌, subst}
 use mathlib.Core.Bool.{Bool}
 use mathlib.Core.List.{List, [], ◌∷◌, ◌++◌, map}
 use Rattle.std.specs.Prelude.{Option, None, Some, Result}
-use Rattle.std.specs.declared.ops.Range.{Range}
 use Prim.Native.Nat.{ℕ, ◌*◌, ◌≤◌, ◌<◌}
 use native.Mathlib.Nat.{mul_comm, mul-le-mul, not-le_of_lt}
 use native.Mathlib.Omega.{arith}
@@ -27,6 +26,7 @@ use Rattle.checks.specs.declared.checked.Checked.{Checked}
 use Rattle.checks.proofs.HandedOn.{checked-off}
 use Rattle.refusal.proofs.Checks.{refuse_yes, refuse_no}
 use Rattle.refusal.specs.declared.refusal.Refusal as code
+use Rattle.selection.specs.declared.select.Places.{Places}
 use Rattle.selection.specs.Select.{Selects}
 use Rattle.minimiser.specs.Answer.{Writable, Answered, AnsweredFor}
 use Rattle.minimiser.proofs.Writing.{writable, refused-kept}
@@ -62,7 +62,7 @@ module _ (k : Checked) where
         subst (λ (rs : List sets.Required). answer n (transition.off table) (sets.privileged n table list) rs) r for_privileged
 
 -- A buffer with n bytes for each stored required cube has room for what select answers.
-pub stored_writable : (n : ℕ) (off : ℕ → Bool) (vs : List sets.Privileged) (required products cover : List ℕ) (r : Result (Range ℕ) code.Refusal) → Selects n off vs (map (required_in n) required) products r
+pub stored_writable : (n : ℕ) (off : ℕ → Bool) (vs : List sets.Privileged) (required products cover : List ℕ) (r : Result Places code.Refusal) → Selects n off vs (map (required_in n) required) products r
     → length required ≤ most_required → length required * n ≤ length cover → Writable n products cover r
 stored_writable n off vs required products cover r h few room =
     let e = length-map required (required_in n) in

@@ -3,7 +3,6 @@ use mathlib.Core.Path.{◌≡◌, refl, sym, ap, ◌∙◌}
 use mathlib.Core.Bool.{Bool}
 use mathlib.Core.List.{List, ◌++◌}
 use Rattle.std.specs.Prelude.{Some, Result, Ok, Err}
-use Rattle.std.specs.declared.ops.Range.{Range}
 use Rattle.std.proofs.lemmas.Option.{same_Some}
 use Prim.Native.Nat.{ℕ, ◌*◌, ◌-◌, ◌≤◌}
 use native.Mathlib.Nat.{le_trans, mul-le-mul_right}
@@ -18,6 +17,7 @@ use Rattle.hazard.proofs.Search.{none-some}
 use Rattle.cube.specs.Entry.{network_in}
 use Rattle.refusal.specs.declared.refusal.Refusal as code
 use Rattle.selection.specs.Choose.{blocking_of}
+use Rattle.selection.specs.declared.select.Places.{Places}
 use Rattle.selection.specs.Select.{KeptFrom, Selects}
 use Rattle.sequence.specs.Sorted.{Sorts}
 use Rattle.sequence.specs.Words.{up_to}
@@ -35,7 +35,7 @@ written-room n room h = le_trans (mul-le-mul_right n h) room
 
 module _ (n : ℕ) (off : ℕ → Bool) (vs : List Privileged) (rs : List Required) where
   -- A buffer with n bytes for each required cube has room for the words.
-  pub writable : (products cover : List ℕ) (s : Result (Range ℕ) code.Refusal) → Selects n off vs rs products s → length rs ≤ most_required → length rs * n ≤ length cover → Writable n products cover s
+  pub writable : (products cover : List ℕ) (s : Result Places code.Refusal) → Selects n off vs rs products s → length rs ≤ most_required → length rs * n ≤ length cover → Writable n products cover s
   writable products cover (Ok places) h few room =
       let l : places.end - places.start ≤ length rs = omega (arith, part_length products h.low h.high, h.kept.few) in
       (h.low, h.high, omega (arith, l, few), le_trans (mul-le-mul_right n l) room)

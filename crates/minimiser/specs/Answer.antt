@@ -1,6 +1,5 @@
 -- What is written for the words that are selected.
 use Rattle.std.specs.Prelude.{◌≡◌, Bool, List, ◌++◌, ℕ, ◌*◌, ◌-◌, ◌≤◌, T, length, drop, None, Some, Result, Ok, Err}
-use Rattle.std.specs.declared.ops.Range.{Range}
 use Rattle.hazard.specs.Limits.{most_required}
 use Rattle.hazard.specs.Transition.{off}
 use Rattle.hazard.specs.Sets.{Required, Privileged, required, privileged}
@@ -11,11 +10,12 @@ use Rattle.cube.specs.Entry.{network_in}
 use Rattle.context.specs.declared.planes.Planes.{Planes}
 use Rattle.context.specs.Context.{table_in}
 use Rattle.selection.specs.Choose.{blocking_of}
+use Rattle.selection.specs.declared.select.Places.{Places}
 use Rattle.selection.specs.Select.{KeptWords}
 use Rattle.refusal.specs.declared.refusal.Refusal as code
 
 -- The words stand within the products, and the buffer has room for their bytes.
-abbrev pub Writable : ℕ → (products cover : List ℕ) → Result (Range ℕ) code.Refusal → Type 0
+abbrev pub Writable : ℕ → (products cover : List ℕ) → Result Places code.Refusal → Type 0
 Writable n products cover (Ok places) =
     (places.start ≤ places.end) × (places.end ≤ length products) × (places.end - places.start ≤ most_required) × ((places.end - places.start) * n ≤ length cover)
 Writable n products cover (Err q) = Unit {0}

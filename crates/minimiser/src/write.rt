@@ -13,8 +13,8 @@ ghost use Rattle.minimiser.specs.Answer.{Writable, Answered};
 use cube::inputs::Inputs;
 use network_bytes::write::write_network;
 use refusal::refusal::Refusal;
+use selection::select::Places;
 use sequence::sort::sort;
-use std::ops::Range;
 
 // The words are sorted, and their bytes written.
 fn write_sorted(n: Inputs, words: &mut [u64], cover: &mut [u8])
@@ -28,14 +28,14 @@ fn write_sorted(n: Inputs, words: &mut [u64], cover: &mut [u8])
 // What select answers, as the minimiser's answer: the words that it kept are written in sequence, or nothing where it refused.
 pub fn written(
     n: Inputs,
-    selected: Result<Range<usize>, Refusal>,
+    selected: Result<Places, Refusal>,
     products: &mut [u64],
     cover: &mut [u8],
 ) -> Result<usize, Refusal>
     requires { Writable n.count products.old cover.old selected }
     ensures { (off : ℕ → Bool) (vs : List Privileged) (rs : List Required) → Selects n.count off vs rs products.old selected → Answered n.count off vs rs cover.old cover.new (minimised_of result) }
 {
-    let Range { start, end } = selected?;
+    let Places { start, end } = selected?;
     write_sorted(n, &mut products[start..end], cover);
     Ok(end - start)
 }

@@ -21,7 +21,7 @@ fn bits_at(k: Walk, w: usize) -> u64
 }
 
 // The first step.
-fn first_step(k: Walk) -> Step
+pub fn first_step(k: Walk) -> Step
     ensures { Steps k 0 result }
 {
     let w = k.words.value as usize;
@@ -32,7 +32,7 @@ fn first_step(k: Walk) -> Step
 }
 
 // The step after s. Four inputs choose the word.
-fn next_step(k: Walk, s: Step) -> Step
+pub fn next_step(k: Walk, s: Step) -> Step
     requires { (s.word < 16) × T (has (cube_of 4 k.words) s.word) }
     ensures { Steps k (s.word + 1) result }
 {

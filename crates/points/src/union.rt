@@ -1,5 +1,5 @@
 // A set of points, with the points of a cube taken in.
-ghost use Rattle.std.specs.Prelude.{◌&&◌, ◌^◌, ltb};
+ghost use Rattle.std.specs.Prelude.{◌≡◌, ◌&&◌, ◌^◌, ltb, length};
 ghost use Rattle.hazard.specs.Cube.{has};
 ghost use Rattle.cube.specs.Mask.{cube_of, Clean};
 ghost use Rattle.points.specs.Union.{Joined};
@@ -10,14 +10,22 @@ use crate::steps::steps_of;
 use cube::inputs::Inputs;
 use cube::mask::Cube;
 
+// The points of the cube join the set, word by word.
+pub fn cube_into(n: Inputs, c: Cube, set: &mut [u64])
+    requires { Clean n.count c × (length set.old ≡ 16) }
+    ensures { Joined (λ x. has (cube_of n.count c) x && ltb x (2 ^ n.count)) set.old set.new }
+{
+    for step in steps_of(walk_over(n, c)) {
+        set[step.word] |= step.mask;
+    }
+}
+
 impl PointSet {
-    // The points of the cube join the set, word by word.
+    // The points of the cube join the set.
     pub fn join_cube(&mut self, n: Inputs, c: Cube)
         requires { Clean n.count c }
         ensures { Joined (λ x. has (cube_of n.count c) x && ltb x (2 ^ n.count)) self.old.words self.new.words }
     {
-        for step in steps_of(walk_over(n, c)) {
-            self.words[step.word] |= step.mask;
-        }
+        cube_into(n, c, &mut self.words);
     }
 }

@@ -6,11 +6,11 @@ use Rattle.std.proofs.lemmas.Option.{same_Some}
 use Prim.Native.Nat.{ℕ, ◌≤◌, ◌<◌}
 use native.Mathlib.Omega.{arith}
 use lib.ListN.{length, take, length-append}
+use lib.Seq.{length-take-le}
 use Rattle.hazard.proofs.Search.{none-some}
 use Rattle.problem_text.specs.Decimal.{decimal}
 use Rattle.problem_text.specs.Form.{newline, cell, transition_lines, Numbers, Form, Formed}
 use Rattle.problem_text.specs.Read.{field_by, table_line, Lines, lines, other, Reading, problem}
-use Rattle.problem_text.specs.declared.read.Problem.{Problem}
 use Rattle.problem_text.proofs.Numbers.{field-spelled}
 use Rattle.problem_text.proofs.Tables.{table-spelled}
 use Rattle.problem_text.proofs.Forms.{form_inputs, form_table}
@@ -63,6 +63,6 @@ module _ (text : List ℕ) where
 pub lines_other : {cs ts : List ℕ} → Lines cs ts None → (ps : List (ℕ × ℕ)) → Numbers ps → ¬ (cs ≡ transition_lines ps)
 lines_other (other o) = o
 
-pub reading_whole : (text : List ℕ) (n : ℕ) (rest : List ℕ) → Some (n, rest) ≡ field_by newline text → (f cs : List ℕ) → Some (f, cs) ≡ table_line rest → length text ≤ 4096 → 0 < length f
-    → {ts : List ℕ} {t : ℕ} → Lines cs ts (Some t) → (r : Problem) → r.inputs ≡ n → r.table.now ≡ f → r.transitions.now ≡ take t ts → Reading text (Some r)
-reading_whole text n rest h f cs e l p (lines ps i u stored few) r a b c = problem ps (rw (a, b) (whole_form text n rest h f cs e l p ps i u)) (c ∙ stored)
+pub reading_whole : (text table : List ℕ) {ts : List ℕ} (n : ℕ) (rest : List ℕ) → Some (n, rest) ≡ field_by newline text → (k : ℕ) (cs : List ℕ) → Some (take k table, cs) ≡ table_line rest
+    → length text ≤ 4096 → 0 < k → k ≤ length table → {t : ℕ} → Lines cs ts (Some t) → Reading text table ts (Some (record { inputs = n; table = k; transitions = t }))
+reading_whole text table n rest h k cs e l p r (lines ps i u stored few) = problem ps (whole_form text n rest h (take k table) cs e l (omega (arith, p, length-take-le k table r)) ps i u) stored r few

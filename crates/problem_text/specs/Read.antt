@@ -2,7 +2,7 @@
 use Rattle.std.specs.Prelude.{◌≡◌, cond, ◌||◌, List, [], ◌∷◌, ℕ, ◌+◌, ◌*◌, ◌-◌, ◌≤◌, eqb, ltb, length, take, Option, None, Some, option_and_then}
 use Rattle.std.specs.Char.{is_ascii_digit}
 use Rattle.problem_text.specs.Form.{newline, space, transition_lines, flat, Numbers, Form, Formed}
-use Rattle.problem_text.specs.declared.read.Problem.{Problem}
+use Rattle.problem_text.specs.declared.read.Sizes.{Sizes}
 
 -- The number x with the digit c after it; a 0 takes none, and no number passes 65535.
 abbrev pub extended : ℕ → ℕ → Option ℕ
@@ -45,7 +45,7 @@ pub data Lines (cs ts : List ℕ) : Option ℕ → Type 0 where
   lines : {k : ℕ} (ps : List (ℕ × ℕ)) → cs ≡ transition_lines ps → Numbers ps → take k ts ≡ flat ps → k ≤ length ts → Lines cs ts (Some k)
   other : ((ps : List (ℕ × ℕ)) → Numbers ps → ¬ (cs ≡ transition_lines ps)) → Lines cs ts None
 
--- The text is of the form, with this table and these transitions; or it is not.
-pub data Reading (text : List ℕ) : Option Problem → Type 0 where
-  problem : {r : Problem} (ps : List (ℕ × ℕ)) → Form text r.inputs r.table.now ps → r.transitions.now ≡ flat ps → Reading text (Some r)
-  malformed : ¬ Formed text → Reading text None
+-- The text is of the form, its table is the beginning of f and its transitions are the beginning of ts, by the sizes; or it is not.
+pub data Reading (text f ts : List ℕ) : Option Sizes → Type 0 where
+  problem : {s : Sizes} (ps : List (ℕ × ℕ)) → Form text s.inputs (take s.table f) ps → take s.transitions ts ≡ flat ps → s.table ≤ length f → s.transitions ≤ length ts → Reading text f ts (Some s)
+  malformed : ¬ Formed text → Reading text f ts None

@@ -6,23 +6,20 @@ use crate::field::field;
 use crate::table::table_into;
 use crate::transition::transitions_into;
 
-// What a text says. The table and the transitions stand in lent rooms.
+// The sizes of what a text says: its number of inputs, and how many values at the beginning of each lent room are its table and its
+// transitions, two numbers for each of these.
 #[derive(Clone, Copy)]
-pub struct Problem<'a> {
+pub struct Sizes {
     pub inputs: usize,
-    pub table: &'a [u8],
-    pub transitions: &'a [u16],
+    pub table: usize,
+    pub transitions: usize,
 }
 
 // The number of inputs, then the table, then the transitions, each into its lent room. A number takes at least two bytes of a text, so that a
 // text of 4,096 bytes has at most half as many.
-pub fn read_problem<'a>(
-    text: &[u8],
-    table: &'a mut [u8],
-    transitions: &'a mut [u16],
-) -> Option<Problem<'a>>
+pub fn read_problem(text: &[u8], table: &mut [u8], transitions: &mut [u16]) -> Option<Sizes>
     requires { (4096 ≤ length table.old) × (4096 / 2 ≤ length transitions.old) }
-    ensures { Reading text.now result }
+    ensures { Reading text.now table.new transitions.new result }
 {
     if 4096 < text.len() {
         return None;
@@ -33,9 +30,9 @@ pub fn read_problem<'a>(
         return None;
     }
     let count = transitions_into(lines, transitions)?;
-    Some(Problem {
+    Some(Sizes {
         inputs: usize::from(n),
-        table: &table[..table_length],
-        transitions: &transitions[..count],
+        table: table_length,
+        transitions: count,
     })
 }

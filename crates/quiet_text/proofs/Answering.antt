@@ -5,7 +5,7 @@ use Rattle.std.specs.Prelude.{Option, None, Some}
 use Rattle.std.proofs.lemmas.Option.{same_Some}
 use Prim.Native.Nat.{ℕ, suc, ◌≤◌, ◌<◌}
 use native.Mathlib.Omega.{arith}
-use lib.ListN.{length}
+use lib.ListN.{length, take}
 use Rattle.hazard.specs.Search.{first_of}
 use Rattle.hazard.specs.Refusal.{Refusal, refusal}
 use Rattle.hazard.proofs.Search.{none-some}
@@ -13,7 +13,7 @@ use Rattle.problem_text.specs.Form.{Form, flat}
 use Rattle.writing.specs.Output.{most_output, refusal_text}
 use Rattle.problem_text.specs.Read.{Reading, problem, malformed}
 use Rattle.quiet_text.specs.Answer.{checks, Printed, Solved, Replied}
-use Rattle.problem_text.specs.declared.read.Problem.{Problem}
+use Rattle.problem_text.specs.declared.read.Sizes.{Sizes}
 use Rattle.problem_text.proofs.Forms.{form_unique}
 use Rattle.quiet_text.proofs.Solving.{printed-within}
 
@@ -56,8 +56,8 @@ module _ {text before after : List ℕ} {r : Option ℕ} where
         solved = λ l. absurd (omega (arith, l));
       }
 
-  module _ (h : most_output ≤ length before) where
-    pub replied_malformed : Reading text None → Printed before (refusal_text (refusal 13 0 0)) after r → Replied text before after r
+  module _ {table ts : List ℕ} (h : most_output ≤ length before) where
+    pub replied_malformed : Reading text table ts None → Printed before (refusal_text (refusal 13 0 0)) after r → Replied text before after r
     replied_malformed (malformed n) w =
         record {
           no_room = λ l. absurd (omega (arith, l));
@@ -67,13 +67,13 @@ module _ {text before after : List ℕ} {r : Option ℕ} where
           solved = λ l n' f' ps s. absurd (n (n', f', ps, s));
         }
 
-    pub replied_solved : {q : Problem} → Reading text (Some q) → Solved q.inputs q.table.now q.transitions.now before after r → Replied text before after r
-    replied_solved {q} (problem ps s e) a =
-        let b : Solved q.inputs q.table.now (flat ps) before after r = subst (λ (l : List ℕ). Solved q.inputs q.table.now l before after r) e a in
+    pub replied_solved : {q : Sizes} → Reading text table ts (Some q) → Solved q.inputs (take q.table table) (take q.transitions ts) before after r → Replied text before after r
+    replied_solved {q} (problem ps s e k t) a =
+        let b : Solved q.inputs (take q.table table) (flat ps) before after r = subst (λ (l : List ℕ). Solved q.inputs (take q.table table) l before after r) e a in
         record {
           no_room = λ l. absurd (omega (arith, l));
           within = solved-within b;
           some' = solved-some b;
-          malformed = λ l n. absurd (n (q.inputs, q.table.now, ps, s));
+          malformed = λ l n. absurd (n (q.inputs, take q.table table, ps, s));
           solved = λ l. only-solved s b;
         }

@@ -6,18 +6,18 @@ ghost use Rattle.quiet_text.specs.Answer.{Solved, Replied};
 use answer_text::reply::{MOST_OUTPUT, put_network, put_refusal};
 use hazard::limits::MOST_COVER;
 use minimiser::minimise::minimise;
-use problem_text::read::{Problem, read_problem};
+use problem_text::read::read_problem;
 use refusal::refusal::Refusal;
 
 // The output for a problem.
-fn solve(p: Problem, out: &mut [u8]) -> usize
+fn solve(inputs: usize, table: &[u8], transitions: &[u16], out: &mut [u8]) -> usize
     requires { most_output ≤ length out.old }
-    ensures { Solved p.entry.inputs p.entry.table.now p.entry.transitions.now out.old out.new (Some result) }
+    ensures { Solved inputs table.now transitions.now out.old out.new (Some result) }
 {
     let mut cover = [0u8; MOST_COVER];
-    match minimise(p.inputs, p.table, p.transitions, &mut cover) {
+    match minimise(inputs, table, transitions, &mut cover) {
         Err(r) => put_refusal(r, out),
-        Ok(count) => put_network(p.inputs, count, &cover, out),
+        Ok(count) => put_network(inputs, count, &cover, out),
     }
 }
 
@@ -31,7 +31,12 @@ pub fn reply(text: &[u8], out: &mut [u8]) -> usize
     let mut transitions = [0u16; 4096 / 2];
     match read_problem(text, &mut table, &mut transitions) {
         None => put_refusal(Refusal::MalformedText, out),
-        Some(problem) => solve(problem, out),
+        Some(sizes) => solve(
+            sizes.inputs,
+            &table[..sizes.table],
+            &transitions[..sizes.transitions],
+            out,
+        ),
     }
 }
 

@@ -4,6 +4,7 @@ ghost use Rattle.std.specs.Int.Bits.{bit_and, bit_xor};
 ghost use Rattle.blocks.specs.Blocks.{stride, allowed_to};
 ghost use Rattle.rows.specs.Sets.{Split};
 
+use crate::copy::copy_into;
 use crate::narrow::narrow;
 use cube::inputs::Inputs;
 use cube::mask::Cube;
@@ -23,7 +24,7 @@ pub fn split(n: Inputs, columns: &[u64], c: Cube, set: &mut [u64], taken: &mut [
     requires { (length set.old ≤ stride columns.now) × (length taken.old ≡ length set.old) }
     ensures { Split (λ k. allowed_to columns.now k c n.count) set.old set.new taken.new }
 {
-    taken.copy_from_slice(set);
+    copy_into(set, taken);
     narrow(n, columns, c, taken);
     remove(set, taken);
 }

@@ -12,7 +12,13 @@ use choice::keep::irredundant_from;
 use columns::relation::Relation;
 use context::context::Context;
 use refusal::refusal::Refusal;
-use std::ops::Range;
+
+// Where the kept words stand among the products: from the place `start` on, and before the place `end`.
+#[derive(Clone, Copy)]
+pub struct Places {
+    pub start: usize,
+    pub end: usize,
+}
 
 // Products are chosen forwards, and those that can be dropped are dropped backwards; or a required cube blocks. `columns` is room for the
 // columns of the required cubes, `firsts` for the place of each one's first product.
@@ -22,7 +28,7 @@ pub fn select(
     columns: &mut [u64],
     firsts: &mut [u16],
     products: &mut [u64],
-) -> Result<Range<usize>, Refusal>
+) -> Result<Places, Refusal>
     requires ready { (length required.now ≤ most_required) × (length required.now ≤ 64 * stride columns.old) × (length required.now ≤ length firsts.old) × (length required.now ≤ length products.old) }
     requires clean { (k : ℕ) → CleanWord context.now.n.count (get_or required.now k 0) }
     ensures { Selects context.now.n.count (off_in context.now) (privileged_of context.now) (map (required_in context.now.n.count) required.now) products.new result }
@@ -34,13 +40,13 @@ pub fn select(
         required,
         columns,
     };
-    let m = covering.choose(&mut firsts[0..count], products)?;
-    let from = irredundant_from(
+    let end = covering.choose(&mut firsts[0..count], products)?;
+    let start = irredundant_from(
         context.n,
         required,
         columns,
         &firsts[0..count],
-        &mut products[0..m],
+        &mut products[0..end],
     );
-    Ok(from..m)
+    Ok(Places { start, end })
 }

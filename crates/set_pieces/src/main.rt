@@ -87,7 +87,7 @@ fn verified<'a>(name: &'a str, problem: Problem<'a>, network: &'a [u8]) -> Piece
     }
 }
 
-fn main(rt: HostRuntime) -> io::Result<()> {
+fn main(rt: HostRuntime) {
     let static_one = problem(3, &[0, 1, 0, 1, 0, 0, 1, 1], &[3, 7]);
     let two_transitions = problem(3, &[0, 2, 1, 1, 1, 2, 1, 0], &[2, 7, 6, 0]);
     let fall = problem(2, &[1, 1, 1, 0], &[0, 3]);
@@ -106,7 +106,8 @@ fn main(rt: HostRuntime) -> io::Result<()> {
         verified("K12", fall, &[]),
     ];
     for piece in &pieces {
-        piece.run(&rt)?;
+        // Of a write that fails nobody is told: what a test prints is compared with the file `stdout` of its crate, and what is missing
+        // shows there.
+        let _ = piece.run(&rt);
     }
-    Ok(())
 }

@@ -1,5 +1,5 @@
 // The required cubes, by their makers: those of a dynamic transition, that of a static one, and single points of a set.
-ghost use Rattle.std.specs.Prelude.{◌≡◌, ◌++◌, map, ◌+◌, ◌^◌, ◌≤◌, ◌<◌, length};
+ghost use Rattle.std.specs.Prelude.{◌≡◌, [], ◌∷◌, ◌++◌, map, ◌+◌, ◌^◌, ◌≤◌, ◌<◌, length};
 ghost use Rattle.hazard.specs.Search.{those};
 ghost use Rattle.hazard.specs.Transition.{count};
 ghost use Rattle.hazard.specs.Sets.{maximal_label, single_points, of_transitions};
@@ -36,6 +36,15 @@ fn dynamic_into(planes: &Planes, t: u16, s: u16, e: u16, out: &mut Store)
     }
 }
 
+// That of a static transition t from 1 to 1: from its start to its end, which is its label.
+fn static_into(n: Inputs, t: u16, ends: Transition, out: &mut Store)
+    requires { (ends.start < 2 ^ n.count) × (ends.end < 2 ^ n.count) × (out.old.next < 2 ^ 32) }
+    ensures same_room { out.new.room.ghost_name ≡ out.old.room.ghost_name }
+    ensures stored { Stored n.count (required_in n.count) out.old.room.now out.new.room.now out.old.next out.new.next (required_to n.count t ends.start ends.end ∷ []) }
+{
+    store(n, t, ends.start, ends.end, out)
+}
+
 // The points of a set, each a required cube of its own, in ascending order, with t for their transition. Its loop is not shared with that of
 // the labels: what they read of a step differs, and a closure for it would have a contract longer than the loop.
 fn points_into(n: Inputs, t: u16, set: &PointSet, out: &mut Store)
@@ -60,7 +69,7 @@ fn transition_into(planes: &Planes, k: Kind, t: u16, ends: Transition, out: &mut
         Kind::Low => {}
         Kind::Rise => dynamic_into(planes, t, ends.end, ends.start, out),
         Kind::Fall => dynamic_into(planes, t, ends.start, ends.end, out),
-        Kind::High => store(planes.n, t, ends.start, ends.end, out),
+        Kind::High => static_into(planes.n, t, ends, out),
     }
 }
 

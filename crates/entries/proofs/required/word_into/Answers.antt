@@ -1,6 +1,8 @@
-use mathlib.Core.Path.{refl, ap, ◌∙◌}
+use mathlib.Core.Path.{◌≡◌, refl, ap, ◌∙◌}
 use mathlib.Core.List.{[], ◌∷◌}
 use Prim.Native.Nat.{ℕ, ◌^◌}
+use borrow.Author.Rules.{rules}
+use Rattle.std.specs.Option.{unwrap_or}
 use Rattle.points.proofs.Members.{points_below}
 use Rattle.entries.specs.Store.{required_to}
 use Rattle.entries.proofs.Filling.{storing_start, storing_below, storing_room, storing_more, stored_as}
@@ -15,4 +17,5 @@ pub loop-label-preserved : goal.loop-label-preserved
 loop-label-preserved c =
     let a = c.args in
     let p = c.store.ensures in
-    (p.same_room ∙ c.loop-label.invariant.0, storing_more c.loop-label.invariant.1 c.in-Some.ensures.steps (stored_as (ap (λ (s : ℕ). required_to a.n.count a.t s c.in-Some.label ∷ []) c.unwrap_or.ensures) p.stored))
+    let unwrapped : c.unwrap_or.result ≡ unwrap_or a.corner c.in-Some.label = search rules in
+    (p.same_room ∙ c.loop-label.invariant.0, storing_more c.loop-label.invariant.1 c.in-Some.ensures.steps (stored_as (ap (λ (s : ℕ). required_to a.n.count a.t s c.in-Some.label ∷ []) unwrapped) p.stored))

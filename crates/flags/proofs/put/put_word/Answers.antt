@@ -1,4 +1,5 @@
 use Prim.Native.Nat.{◌+◌, ◌*◌, ◌<◌}
+use native.Mathlib.Omega.{arith}
 use lib.ListN.{length}
 use borrow.Author.Rules.{rules}
 use Rattle.flags.proofs.Placing.{placing_at, placing_step, placing_end}
@@ -16,7 +17,7 @@ pub offset_bounds-places-b : goal.offset_bounds-places-b
 offset_bounds-places-b g c = search (rules, low g (goal.at.offset_bounds-places-b g c).In-Some)
 
 pub bounds-places-b : goal.bounds-places-b
-bounds-places-b g c = low g (goal.at.bounds-places-b g c).In-Some
+bounds-places-b g c = omega (arith, low g (goal.at.bounds-places-b g c).In-Some)
 
 pub loop-i-preserved : goal.loop-i-preserved
 loop-i-preserved g c d =

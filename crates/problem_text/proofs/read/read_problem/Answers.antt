@@ -1,5 +1,4 @@
-use Rattle.std.proofs.Common.{◌≡◌, ◌<◌, ◌≤◌, None, length, take, refl, arith, rules}
-use lib.Seq.{length-take-le}
+use Rattle.std.proofs.Common.{◌≡◌, ◌≤◌, None, length, take, refl, arith, rules}
 use Rattle.problem_text.specs.Read.{Reading, malformed}
 use Rattle.problem_text.proofs.Readings.{shorter-field, shorter-table, too_long, no_inputs, no_table, empty_table, other-lines, reading_whole, lines_other}
 use Rattle.problem_text.proofs.read.read_problem.Goals as goal
@@ -10,7 +9,7 @@ returns-then-text-gt4096 c = malformed (too_long c.args.text.now (omega arith))
 pub returns-in_err-n : goal.returns-in_err-n
 returns-in_err-n c =
     let a = c.args in
-    let m : Reading a.text.now None = malformed (no_inputs a.text.now c.in_err-n.ensures) in
+    let m : Reading a.text.now a.table.now a.transitions.now None = malformed (no_inputs a.text.now c.in_err-n.ensures) in
     search (rules, m)
 
 pub table_into-requires : goal.table_into-requires
@@ -20,7 +19,7 @@ pub returns-in_err-table_length : goal.returns-in_err-table_length
 returns-in_err-table_length c =
     let a = c.args in
     let i = c.in_ok-n in
-    let m : Reading a.text.now None = malformed (no_table a.text.now i.n i.after.now i.ensures c.in_err-table_length.ensures.read) in
+    let m : Reading a.text.now c.table_into.new.table a.transitions.now None = malformed (no_table a.text.now i.n i.after.now i.ensures c.in_err-table_length.ensures.read) in
     search (rules, m)
 
 pub returns-then-table_length-eq0 : goal.returns-then-table_length-eq0
@@ -45,7 +44,7 @@ returns-in_err-count c =
     let i = c.in_ok-n in
     let k = c.in_ok-table_length in
     let table = c.table_into.new.table in
-    let m : Reading text None =
+    let m : Reading text table c.transitions_into.new.transitions None =
     malformed (other-lines text i.n i.after.now i.ensures (take k.table_length table) k.lines.now k.ensures.read (lines_other c.in_err-count.ensures)) in
     search (rules, m)
 
@@ -54,6 +53,4 @@ returns c =
     let text = c.args.text.now in
     let i = c.in_ok-n in
     let k = c.in_ok-table_length in
-    let f = take k.table_length c.table_into.new.table in
-    let some' : 0 < length f = omega (arith, length-take-le k.table_length c.table_into.new.table k.ensures.within) in
-    reading_whole text i.n i.after.now i.ensures f k.lines.now k.ensures.read (omega arith) some' c.in_ok-count.ensures _ c.from.ensures refl refl
+    rw c.from.ensures (reading_whole text c.table_into.new.table i.n i.after.now i.ensures k.table_length k.lines.now k.ensures.read (omega arith) (omega arith) k.ensures.within c.in_ok-count.ensures)

@@ -14,4 +14,4 @@ choice c e =
     subst (Choice a.context.now a.required.now c.choose.new.firsts c.choose.new.products) e c.choose.ensures
 
 pub returns : goal.returns
-returns c = let h = choice (goal.at.returns c).After-choose c.in_ok-m.was in kept_from h.1 c.irredundant_from-from.ensures h.0 _
+returns c = let h = choice (goal.at.returns c).After-choose c.in_ok-end.was in kept_from h.1 c.irredundant_from-start.ensures h.0 _

@@ -1,12 +1,14 @@
 use mathlib.Core.Path.{◌≡◌, refl, sym, ap, ◌∙◌}
+use mathlib.Core.List.{List}
 use Prim.Native.Nat.{ℕ, ◌+◌, ◌*◌, ◌≤◌, ◌<◌}
 use native.Mathlib.Omega.{arith}
-use lib.ListN.{length, drop, length-drop}
+use lib.ListN.{length, set, drop, length-drop}
 use lib.Pow.{pow_mono}
 use Rattle.std.specs.Iterator.Adapters.{enumerate_count}
 use Rattle.std.proofs.lemmas.List.{drop-drop}
 use Rattle.blocks.proofs.Storing.{block_is}
-use Rattle.context.proofs.PlaneWord.{filled_more, filled_plane}
+use Rattle.context.specs.Planes.{plane_word}
+use Rattle.context.proofs.PlaneWord.{Filled, filled_more, filled_plane}
 use Rattle.context.proofs.Values.{planes_apart}
 use Rattle.context.proofs.planes.Planes.of.Goals as goal
 use Rattle.context.proofs.planes.Planes.of.Goals.{In-Some, In-None}
@@ -29,6 +31,10 @@ bounds-zeros-w c = omega (arith, few (goal.at.bounds-zeros-w c).In-Some, c.in-So
 pub bounds-ones-w : goal.bounds-ones-w
 bounds-ones-w c = omega (arith, few (goal.at.bounds-ones-w c).In-Some, c.in-Some.ensures.steps.1)
 
+-- The word that is stored is the one that was read.
+stored : {f : List ℕ} {v : ℕ} (words : List ℕ) (w : ℕ) (block : List ℕ) {word : ℕ} → word ≡ plane_word v block → Filled f v (set words w (plane_word v block)) (w + 1) → Filled f v (set words w word) (w + 1)
+stored words w block e h = rw e h
+
 pub loop-w-preserved : goal.loop-w-preserved
 loop-w-preserved c =
     let v = c.loop-w.invariant in
@@ -42,8 +48,8 @@ loop-w-preserved c =
     record {
       size = same ∙ v.size;
       rest = rw next (k.1 ∙ drop-drop 64 (64 * w) table ∙ ap (λ (y : ℕ). drop y table) e);
-      zeros' = rw (next, is, c.plane_word.ensures) (filled_more v.zeros' (few (goal.at.loop-w-preserved c).In-Some) k.0);
-      ones' = rw (next, is, c.plane_word-in-loop-w.ensures) (filled_more v.ones' (few (goal.at.loop-w-preserved c).In-Some) k.0);
+      zeros' = rw (next, is) (stored _ _ _ c.plane_words-zero_word.ensures.0 (filled_more v.zeros' (few (goal.at.loop-w-preserved c).In-Some) k.0));
+      ones' = rw (next, is) (stored _ _ _ c.plane_words-zero_word.ensures.1 (filled_more v.ones' (few (goal.at.loop-w-preserved c).In-Some) k.0));
     }
 
 -- All blocks are read.

@@ -1,6 +1,6 @@
 use Rattle.std.proofs.Common.{◌≤◌, length, take}
 use Rattle.std.specs.Io.KnownBytes.{Consumes}
-use Rattle.quiet_text.proofs.input.read_full.Given as goal
+use Rattle.quiet_text.proofs.input.read_first.Given as goal
 
 -- A byte at least for each turn.
 abbrev pub invariant-loop-turn : goal.invariant-loop-turn

@@ -1,6 +1,6 @@
 use Rattle.std.proofs.Common.{arith, rules}
 use Rattle.quiet_text.proofs.Reading.{read_more}
-use Rattle.quiet_text.proofs.input.read_full.Goals as goal
+use Rattle.quiet_text.proofs.input.read_first.Goals as goal
 
 pub loop-turn-preserved : goal.loop-turn-preserved
 loop-turn-preserved g c =
@@ -8,5 +8,5 @@ loop-turn-preserved g c =
     record {
       low = omega arith;
       within = search rules;
-      bytes = read_more _ _ _ l.room c.read.new.buf l.done c.in_ok-got.got l.invariant.within (search rules) l.invariant.bytes c.in_ok-got.ensures.bytes.0;
+      bytes = read_more _ _ _ l.room c.read.new.buf l.done c.in-Ok.got l.invariant.within (search rules) l.invariant.bytes c.in-Ok.ensures.bytes.0;
     }

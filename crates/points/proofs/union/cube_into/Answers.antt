@@ -1,7 +1,7 @@
 use Rattle.std.proofs.Common.{rules}
 use Rattle.points.proofs.Turning.{turning_at, turning_steps, turning_more}
 use Rattle.points.proofs.Uniting.{uniting_more}
-use Rattle.points.proofs.set.PointSet.join_cube.Goals as goal
+use Rattle.points.proofs.union.cube_into.Goals as goal
 
 pub loop-step-preserved : goal.loop-step-preserved
 loop-step-preserved c =
